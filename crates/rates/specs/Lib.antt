@@ -1,0 +1,4 @@
+-- The definitions that the contracts cite, and the laws about them.
+pub mod Rate
+pub mod Laws
+pub mod Examples

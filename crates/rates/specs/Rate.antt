@@ -1,0 +1,41 @@
+-- The daily rate of an annual rate (document 01, "Daily rate"): "For an annual rate i from 0 to 4,000 the daily rate d counts units of
+-- 1/10^10 and is the largest whole number with (10^10 + d)^365 ≤ (100,000 + i) × 10^3645."
+use mathlib.Core.Bool.{Bool, cond}
+use Prim.Native.Nat.{ℕ, zero, suc, _+_, _*_, _^_}
+use lib.Dec.{leb}
+use Rattle.rates.specs.declared.DailyRate.{DailyRate}
+use Rattle.rates.specs.declared.DailyRate.the-variants.{Daily, Refused}
+
+-- (10^10 + d)^365
+abbrev pub growth : ℕ → ℕ
+growth d = (10 ^ 10 + d) ^ 365
+
+-- (100,000 + i) × 10^3645
+abbrev pub limit : ℕ → ℕ
+limit i = (100000 + i) * 10 ^ 3645
+
+-- d is no more than the annual rate i allows
+unfoldable pub within : ℕ → ℕ → Bool
+within i d = leb (growth d) (limit i)
+
+-- the largest number up to n that passes a test, 0 where none does
+unfoldable pub largest : (ℕ → Bool) → ℕ → ℕ
+largest test zero = zero
+largest test (suc n) = cond (test (suc n)) (suc n) (largest test n)
+
+-- d; no number beyond limit i passes the test
+unfoldable pub dailyOf : ℕ → ℕ
+dailyOf i = largest (within i) (limit i)
+
+-- 6, "rate: over 4,000"
+abbrev pub rateNumber : ℕ
+rateNumber = 6
+
+-- the number of document 01's table and the value, for each case of the answer
+abbrev pub rateStated : DailyRate → ℕ × ℕ
+rateStated (Daily d) = (0, d)
+rateStated Refused = (rateNumber, 0)
+
+-- what is answered
+unfoldable pub rateOf : ℕ → ℕ × ℕ
+rateOf i = cond (leb i 4000) (0, dailyOf i) (rateNumber, 0)

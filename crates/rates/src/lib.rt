@@ -1,0 +1,33 @@
+// The daily rate of an annual rate (document 01, "Daily rate"), from a table whose rule is proved of every entry.
+mod table;
+
+ghost use mathlib.Core.Path.{_≡_};
+ghost use Rattle.rates.specs.Rate.{rateOf, rateStated};
+ghost use Rattle.rates.specs.Laws.{Laws};
+ghost use Rattle.rates.specs.Examples.{Examples};
+use crate::table::DAILY;
+
+// The greatest annual rate, in thousandths of a percent.
+pub const GREATEST: u64 = 4000;
+
+// A daily rate, in units of 1/10^10.
+pub enum DailyRate {
+    Daily(u64),
+    Refused,
+}
+
+pub fn daily_rate(annual: u64) -> DailyRate
+    ensures { λ r. ⌜ rateStated r ≡ rateOf annual ⌝ }
+{
+    if GREATEST < annual {
+        return DailyRate::Refused;
+    }
+    let i = annual as usize;
+    let daily = DAILY[i];
+    DailyRate::Daily(daily as u64)
+}
+
+// What callers may rely on of daily rates, and the worked examples of document 01 that speak of them alone. It does nothing.
+pub fn theorems()
+    ensures { λ r. ⌜ Laws × Examples ⌝ }
+{}
