@@ -1,0 +1,35 @@
+-- What a caller shows: the book that a call gave back is reached.
+use Prim.Native.Nat.{ℕ}
+use mathlib.Core.Path.{_≡_, sym, ap, subst}
+use mathlib.Core.List.{List}
+use Rattle.book.specs.declared.Book.{Book}
+use Rattle.book.specs.declared.Cents.{Cents}
+use Rattle.book.specs.declared.Day.{Day}
+use Rattle.book.specs.declared.Parts.{Parts}
+use Rattle.book.specs.declared.Opened.{Opened}
+use Rattle.book.specs.declared.Advanced.{Advanced}
+use Rattle.book.specs.declared.Transferred.{Transferred}
+use Rattle.book.specs.declared.Settled.{Settled}
+use Rattle.book.specs.Outcome.{openStated, advanceStated, transferStated, settleStated}
+use Rattle.book.specs.Open.{opened}
+use Rattle.book.specs.Advance.{advanced}
+use Rattle.book.specs.Transfer.{transferred}
+use Rattle.book.specs.Settle.{settled}
+use Rattle.book.specs.Reached.{Reached, opens, advances, transfers, settles}
+
+module _ (b : Book) (reached : Reached b) where
+  pub open-reached : (first : ℕ) (term : Day) (annual : ℕ) (cents : Cents) (hs ss : List ℕ) (r : Opened)
+      → openStated r ≡ opened b first term annual cents hs ss → Reached (r .book)
+  open-reached first term annual cents hs ss r e =
+      subst Reached (ap (λ o. o .book) (sym e)) (opens reached first term annual cents hs ss)
+
+  pub advance-reached : (date : ℕ) (r : Advanced) → advanceStated r ≡ advanced b date → Reached (r .book)
+  advance-reached date r e = subst Reached (ap (λ o. o .book) (sym e)) (advances reached date)
+
+  pub transfer-reached : (cedent assignee : ℕ) (parts : Parts) (r : Transferred)
+      → transferStated r ≡ transferred b cedent assignee parts → Reached (r .book)
+  transfer-reached cedent assignee parts r e =
+      subst Reached (ap (λ o. o .book) (sym e)) (transfers reached cedent assignee parts)
+
+  pub settle-reached : (cents : Cents) (r : Settled) → settleStated r ≡ settled b cents → Reached (r .book)
+  settle-reached cents r e = subst Reached (ap (λ o. o .book) (sym e)) (settles reached cents)

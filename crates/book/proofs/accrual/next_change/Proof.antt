@@ -1,0 +1,86 @@
+-- `next_change` meets its contract. The loop's invariant: the change so far, with the orders that remain, gives the next change.
+use Prim.Native.Nat.{ℕ, _+_, _-_, _≤_, _<_}
+use native.Mathlib.Omega.{arith}
+use mathlib.Core.Path.{_≡_, refl}
+use mathlib.Core.Bool.{cond}
+use mathlib.Core.List.{List}
+use borrow.Author.Needs.{needs}
+use lib.Dec.{leb, ltb}
+use lib.ListN.{length, take, drop, getD}
+use Rattle.book.specs.declared.RateOrder.{RateOrder}
+use Rattle.book.specs.Book.{orderFrom}
+use Rattle.book.specs.Computation.{nextChange}
+use Rattle.book.proofs.Turns.{remains, none-remains}
+use Rattle.book.proofs.accrual.next_change.Statement.{statement}
+use Rattle.book.proofs.accrual.next_change.Tie as tie
+
+-- one order, and the end
+module _ (rates : List RateOrder) (n j day : ℕ) (room : n ≤ length rates) where
+  change-turn : (end next x : ℕ) → j < n
+      → next
+      ≡ cond (leb (getD rates j (orderFrom 0 0) .first .0) day) end
+      (cond (ltb (getD rates j (orderFrom 0 0) .first .0) end) (getD rates j (orderFrom 0 0) .first .0) end)
+      → nextChange (drop j (take n rates)) day end ≡ x → nextChange (drop (j + 1) (take n rates)) day next ≡ x
+  unfolding nextChange
+  change-turn end next x lt e inv = rw e (rw (remains rates n j room (orderFrom 0 0) lt) at inv)
+
+  change-end : (end x : ℕ) → n ≤ j → j ≤ n → nextChange (drop j (take n rates)) day end ≡ x → end ≡ x
+  unfolding nextChange
+  change-end end x ge le inv = rw (none-remains rates n j room ge le) at inv
+
+abbrev Inv-loop : tie.InvT-loop
+Inv-loop rated day end rates next₀ j₀ next j = (j ≤ rated) × (nextChange (drop j (take rated rates)) day next ≡ nextChange (take rated rates) day end)
+
+abbrev μ-loop : tie.MeasureT-loop
+μ-loop rated day end rates next₀ j₀ next j = rated - j
+
+room : (c : tie.Start Inv-loop μ-loop) → length (c .args .t1) ≡ 16
+room c = search needs
+
+loop-holds : tie.Need-loop-holds Inv-loop μ-loop
+loop-holds c = (omega arith, refl)
+
+mul-order : tie.Need-mul-order Inv-loop μ-loop
+mul-order c = omega arith
+
+array-copy-out-order : tie.Need-array-copy-out-order Inv-loop μ-loop
+array-copy-out-order c = omega arith
+
+sooner-requires : tie.Need-sooner-requires Inv-loop μ-loop
+sooner-requires c κs = search needs
+
+add-j : tie.Need-add-j Inv-loop μ-loop
+add-j c = omega arith
+
+loop-less : tie.Need-loop-less Inv-loop μ-loop
+loop-less c = omega arith
+
+loop-again : tie.Need-loop-again Inv-loop μ-loop
+loop-again c =
+    let s = c .before .before .before .before in
+    let l = c .before .before .before .loop in (
+      omega arith,
+      change-turn (s .args .t1) (s .args .rated) (l .j) (s .args .day) (omega (arith, room s)) (l .next) (c .sooner .result) _ (omega arith)
+          (c .sooner .ensures) (l .inv .1),
+    )
+
+returns : tie.Need-returns Inv-loop μ-loop
+returns c =
+    let s = c .before .before in
+    let l = c .before .loop in
+    change-end (s .args .t1) (s .args .rated) (l .j) (s .args .day) (omega (arith, room s)) (l .next) _ (omega arith) (omega arith) (l .inv .1)
+
+pub next-change-spec : {M : Type 1} → statement M
+next-change-spec =
+    tie.close
+    (tie.spec
+    Inv-loop
+    μ-loop
+    loop-holds
+    mul-order
+    array-copy-out-order
+    sooner-requires
+    add-j
+    loop-less
+    loop-again
+    returns)

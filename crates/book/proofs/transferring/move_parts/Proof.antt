@@ -1,0 +1,176 @@
+-- `transferring::move_parts` meets its contract.
+use Prim.Native.Nat.{_≤_, _<_}
+use native.Mathlib.Omega.{arith}
+use mathlib.Core.Bool.{false}
+use mathlib.Core.Path.{_≡_, sym, _∙_}
+use borrow.Author.Needs.{needs}
+use lib.ListN.{getD}
+use Rattle.book.specs.Book.{held}
+use Rattle.book.specs.Outcome.{noPosition}
+use Rattle.book.specs.Positions.{place, present}
+use Rattle.book.proofs.Places.{found-at, found-nothing}
+use Rattle.book.proofs.Transfers.{Cedent, held-count, share-most, moved-none, moved-over, moved-full, moved-last, moved-between}
+use Rattle.book.proofs.transferring.move_parts.Statement.{statement}
+use Rattle.book.proofs.transferring.move_parts.Tie as tie
+
+ceding : (s : tie.Start) → Cedent (s .args .t1) (s .args .cedent) (s .args .from)
+ceding s = record { sound = s .pre .0; is-open = s .pre .1 .0; here = s .pre .1 .1 .0 .0; below = s .pre .1 .1 .0 .1 }
+
+most : (s : tie.Start) → s .args .t1 .count ≤ 64
+most s = s .pre .0 .when-open (s .pre .1 .0) .positions-most
+
+-- at least one part, and no more than the cedent has
+some : (c : tie.Else2) → c .before .before .before .args .parts ≡ 0 → ⊥
+some c e = omega (arith, c .before .if1 .left)
+
+enough : (c : tie.Else2) → c .before .before .before .args .parts ≤ getD (c .before .before .before .args .t1 .positions) (c .before .before .before .args .from) noPosition .share .0
+enough c = omega (arith, c .if2 .left)
+
+-- the assignee is in the book
+abbrev found : tie.After-to → tie.Start
+found c = c .before .before .before .before .before .before .before .before
+
+hit : (c : tie.After-to)
+    → (c .to .given .0 .0 ≡ place (found c .args .assignee) (held (found c .args .t1))) × (c .to .given .0 .0 < found c .args .t1 .count)
+hit c =
+    let s = found c in
+    let f = found-at (held (s .args .t1)) (s .args .assignee) _ (sym (c .to .given .1) ∙ c .before .before .find .ensures) in
+    (f .0, omega (arith, f .1, held-count (ceding s)))
+
+-- it is not
+abbrev searched : tie.After-enum-told → tie.Start
+searched c = c .before .before .before .before .before .before .before .before
+
+missed : (c : tie.After-enum-told) → present (searched c .args .assignee) (held (searched c .args .t1)) ≡ false
+missed c =
+    let s = searched c in
+    found-nothing (held (s .args .t1)) (s .args .assignee) (sym (c .enum-told .given .1) ∙ c .before .before .find .ensures)
+
+mul-giver : tie.Need-mul-giver
+mul-giver c = omega (arith, most c)
+
+element-copy-out-giver : tie.Need-element-copy-out-giver
+element-copy-out-giver c = omega (arith, most c)
+
+refused-requires : tie.Need-refused-requires
+refused-requires c κs = search needs
+
+returns : tie.Need-returns
+returns c =
+    let s = c .before .before .before in
+    c .refused .ensures ∙ moved-none (ceding s) (s .args .assignee) (s .args .parts) (omega (arith, c .before .if1 .taken))
+
+refused-requires-2 : tie.Need-refused-requires-2
+refused-requires-2 c κs = search needs
+
+returns-2 : tie.Need-returns-2
+returns-2 c =
+    let s = c .before .before .before .before in
+    c .refused2 .ensures ∙ moved-over (ceding s) (s .args .assignee) (s .args .parts) (λ e. omega (arith, c .before .before .if1 .left)) (omega (arith, c .before .if2 .taken))
+
+find-requires : tie.Need-find-requires
+find-requires c κs = most (c .before .before .before .before .before)
+
+enum-known-to : tie.Need-enum-known-to
+enum-known-to c = search needs
+
+mul-taker : tie.Need-mul-taker
+mul-taker c = omega (arith, hit (c .before) .1, most (found (c .before)))
+
+element-copy-out-taker : tie.Need-element-copy-out-taker
+element-copy-out-taker c = omega (arith, hit (c .before) .1, most (found (c .before)))
+
+-- two shares of one book
+add-sum : tie.Need-add-sum
+add-sum c =
+    let f = c .before .before .before in
+    let s = found f in
+    let has = share-most (ceding s) (s .args .from) (s .pre .1 .1 .0 .1) in
+    let takes = share-most (ceding s) (f .to .given .0 .0) (hit f .1) in
+    omega (arith, has, takes, enough (f .before .before .before .before .before))
+
+mul-giver-2 : tie.Need-mul-giver-2
+mul-giver-2 c = omega (arith, most (found (c .before .before .before .before)))
+
+element-set-from-giver : tie.Need-element-set-from-giver
+element-set-from-giver c = omega (arith, most (found (c .before .before .before .before)))
+
+mul-taker-2 : tie.Need-mul-taker-2
+mul-taker-2 c = let f = c .before .before .before .before in omega (arith, hit f .1, most (found f))
+
+element-set-from-taker : tie.Need-element-set-from-taker
+element-set-from-taker c = let f = c .before .before .before .before in omega (arith, hit f .1, most (found f))
+
+enum-told : tie.Need-enum-told
+enum-told c = search needs
+
+refused-requires-3 : tie.Need-refused-requires-3
+refused-requires-3 c κs = search needs
+
+returns-3 : tie.Need-returns-3
+returns-3 c =
+    let m = c .before .before in
+    let s = searched m in
+    let over = m .before .before .before .before .before in
+    c .refused3 .ensures
+    ∙ moved-full (ceding s) (s .args .assignee) (s .args .parts) (some over) (enough over) (missed m) (omega (arith, c .before .if3 .taken))
+
+mul-giver-3 : tie.Need-mul-giver-3
+mul-giver-3 c = search needs
+
+element-set-from-giver-2 : tie.Need-element-set-from-giver-2
+element-set-from-giver-2 c = search needs
+
+mul-t38 : tie.Need-mul-t38
+mul-t38 c = search needs
+
+element-set-from-next : tie.Need-element-set-from-next
+element-set-from-next c = search needs
+
+add-next : tie.Need-add-next
+add-next c = search needs
+
+returns-4 : tie.Need-returns-4
+returns-4 c =
+    let f = c .before .before .before .before in
+    let s = found f in
+    let over = f .before .before .before .before .before in
+    moved-between (ceding s) (s .args .assignee) (s .args .parts) (some over) (enough over)
+    (f .to .given .0 .0) (s .pre .1 .1 .1) (hit f .0) (hit f .1)
+
+returns-5 : tie.Need-returns-5
+returns-5 c =
+    let m = c .before in
+    let s = searched m in
+    let over = m .before .before .before .before .before in
+    moved-last (ceding s) (s .args .assignee) (s .args .parts) (some over) (enough over) (missed m) (omega (arith, c .if3 .left))
+
+pub move-parts-spec : {M : Type 1} → statement M
+move-parts-spec =
+    tie.close
+    (tie.spec
+    mul-giver
+    element-copy-out-giver
+    refused-requires
+    returns
+    refused-requires-2
+    returns-2
+    find-requires
+    enum-known-to
+    mul-taker
+    element-copy-out-taker
+    add-sum
+    mul-giver-2
+    element-set-from-giver
+    mul-taker-2
+    element-set-from-taker
+    enum-told
+    refused-requires-3
+    returns-3
+    mul-giver-3
+    element-set-from-giver-2
+    mul-t38
+    element-set-from-next
+    add-next
+    returns-4
+    returns-5)

@@ -1,0 +1,70 @@
+-- What the parts of the computation give, and the conditions of the invariant. Private contracts cite it; no public one does.
+use Prim.Native.Nat.{ℕ, zero, suc, _+_, _*_, _≤_, _<_}
+use mathlib.Core.Path.{_≡_}
+use mathlib.Core.Bool.{cond}
+use mathlib.Core.List.{List, [], _∷_}
+use lib.Dec.{leb, ltb}
+use Rattle.book.specs.declared.Account.{Account}
+use Rattle.book.specs.declared.Position.{Position}
+use Rattle.book.specs.declared.RateOrder.{RateOrder}
+use Rattle.book.specs.declared.Settlement.{Settlement}
+use Rattle.book.specs.declared.positions.Found.{Found}
+use Rattle.book.specs.declared.positions.Found.the-variants.{At, Nothing}
+use Rattle.book.specs.Accrual.{accruedDay}
+use Rattle.book.specs.Positions.{place, present}
+
+-- Positions
+
+-- where a holder stands
+abbrev pub foundIn : List Position → ℕ → Found
+foundIn ps h = cond (present h ps) (At (place h ps)) Nothing
+
+-- its share in unit-days, for so many days at once
+abbrev pub daysHeld : ℕ → Position → Position
+daysHeld n p =
+    record { holder = p .holder; share = p .share; «unit_days» = p .«unit_days» + p .share .0 * n; received = p .received }
+
+-- Interest
+
+-- so many days at one daily rate, one after the other
+unfoldable pub accruedDays : ℕ → ℕ → Account → Account
+accruedDays zero d a = a
+accruedDays (suc k) d a = accruedDay d (accruedDays k d a)
+
+-- so many days from a day on, each at its own daily rate, without a settlement
+unfoldable pub elapsed : (ℕ → ℕ) → ℕ → ℕ → Account → Account
+elapsed daily from zero a = a
+elapsed daily from (suc k) a = accruedDay (daily (from + k)) (elapsed daily from k a)
+
+-- the figures of an account after at most n days; no day brings more interest than 10^12 × 1,074,597 / 10^10 and a cent
+pub record Bounded (n : ℕ) (a : Account) : Type 0 where
+  pub principal : a .outstanding .0 + a .«principal_paid» .0 ≤ 1000000000000
+  pub below : a .fraction < 10000000000
+  pub interest : a .due .0 + a .«interest_paid» .0 ≤ n * 107459701
+
+-- Orders and settlements
+
+-- the first day after one on which an order begins, or the given end where none begins before it
+unfoldable pub nextChange : List RateOrder → ℕ → ℕ → ℕ
+nextChange [] day end = end
+nextChange (o ∷ os) day end = nextChange os day (cond (leb (o .first .0) day) end (cond (ltb (o .first .0) end) (o .first .0) end))
+
+-- every stored rate is one that has a daily rate
+abbrev pub Priced : List RateOrder → Type 0
+Priced [] = Unit {0}
+Priced (o ∷ os) = (o .annual ≤ 4000) × Priced os
+
+-- orders that follow one another by first day, all after one day and none after another
+abbrev pub Rising : ℕ → List RateOrder → ℕ → Type 0
+Rising day [] today = Unit {0}
+Rising day (o ∷ os) today = (day < o .first .0) × (o .first .0 ≤ today) × Rising (o .first .0) os today
+
+-- orders of which the first holds from day 0
+abbrev pub FromStart : List RateOrder → ℕ → Type 0
+FromStart [] today = ⊥
+FromStart (o ∷ os) today = (o .first .0 ≡ 0) × Rising 0 os today
+
+-- the settlements follow one another by day, all after one day and none after another
+abbrev pub Timely : ℕ → List Settlement → ℕ → Type 0
+Timely from [] today = from ≤ today
+Timely from (s ∷ ss) today = (from < s .day .0) × Timely (s .day .0) ss today

@@ -1,0 +1,14 @@
+-- The definitions that the contracts cite. `Computation` and `Sound` are cited by private ones alone.
+pub mod Book
+pub mod Outcome
+pub mod Accrual
+pub mod Schedule
+pub mod Positions
+pub mod Open
+pub mod Advance
+pub mod Transfer
+pub mod Settle
+pub mod Read
+pub mod Reached
+pub mod Computation
+pub mod Sound

@@ -1,0 +1,20 @@
+-- The books that calls reach: "A book handed in may be supposed reached by these calls from an empty one; nothing else is supposed."
+use Prim.Native.Nat.{ℕ}
+use mathlib.Core.List.{List}
+use Rattle.book.specs.declared.Book.{Book}
+use Rattle.book.specs.declared.Cents.{Cents}
+use Rattle.book.specs.declared.Day.{Day}
+use Rattle.book.specs.declared.Parts.{Parts}
+use Rattle.book.specs.Book.{emptyBook}
+use Rattle.book.specs.Open.{opened}
+use Rattle.book.specs.Advance.{advanced}
+use Rattle.book.specs.Transfer.{transferred}
+use Rattle.book.specs.Settle.{settled}
+
+-- the empty book, and what each call with any arguments gives back of a reached one
+pub data Reached : Book → Type 0 where
+  empty : Reached emptyBook
+  opens : {b : Book} → Reached b → (first : ℕ) (term : Day) (annual : ℕ) (cents : Cents) (hs ss : List ℕ) → Reached (opened b first term annual cents hs ss .book)
+  advances : {b : Book} → Reached b → (date : ℕ) → Reached (advanced b date .book)
+  transfers : {b : Book} → Reached b → (cedent assignee : ℕ) (parts : Parts) → Reached (transferred b cedent assignee parts .book)
+  settles : {b : Book} → Reached b → (cents : Cents) → Reached (settled b cents .book)

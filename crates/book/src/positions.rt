@@ -1,0 +1,38 @@
+// Positions looked up by holder.
+ghost use mathlib.Core.Path.{_≡_};
+ghost use Prim.Native.Nat.{_≤_};
+ghost use lib.ListN.{take};
+ghost use Rattle.book.specs.Positions.{isHolder};
+ghost use Rattle.book.specs.Computation.{foundIn};
+use crate::Book;
+use crate::Position;
+
+// Where a holder stands among the positions.
+pub enum Found {
+    At(usize),
+    Nothing,
+}
+
+// A holder's number is 1 to 999,999,999.
+pub fn is_holder(number: u32) -> bool
+    ensures { λ r. ⌜ r ≡ isHolder number ⌝ }
+{
+    if number == 0 {
+        return false;
+    }
+    number <= 999999999
+}
+
+pub fn find(positions: [Position; Book::POSITIONS], count: usize, holder: u32) -> Found
+    requires { ⌜ count ≤ 64 ⌝ }
+    ensures { λ r. ⌜ r ≡ foundIn (take count positions) holder ⌝ }
+{
+    let mut i: usize = 0;
+    while i < count {
+        if positions[i].holder == holder {
+            return Found::At(i);
+        }
+        i += 1;
+    }
+    Found::Nothing
+}
