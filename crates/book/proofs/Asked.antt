@@ -1,11 +1,11 @@
 -- What is asked of a list from a place on, told from the element there and the rest: for loops that go through a list.
 use Prim.Native.Nat.{ℕ, _+_, _<_}
 use native.Mathlib.Numerals.{add-one}
-use mathlib.Core.Path.{_≡_, refl}
+use mathlib.Core.Path.{_≡_}
 use mathlib.Core.Bool.{Bool, true, false}
-use mathlib.Core.List.{List, [], _∷_}
+use mathlib.Core.List.{List, _∷_}
 use lib.ListN.{length, drop, getD}
-use lib.Seq.{drop-cons, drop-length}
+use lib.Seq.{drop-cons}
 use borrow.Author.Tests.{eq-eqb, ne-eqb}
 use Rattle.book.specs.Open.{all, distinct}
 use Rattle.book.specs.Positions.{total, among}
@@ -36,7 +36,3 @@ module _ (l : List ℕ) (i : ℕ) (lt : i < length l) where
 
   pub total-step : total (drop i l) ≡ getD l i 0 + total (drop (i + 1) l)
   total-step = rw at-head
-
--- at the end nothing is left
-pub none-left : (l : List ℕ) (i : ℕ) → i ≡ length l → drop i l ≡ []
-none-left l i e = rw (e, drop-length l)

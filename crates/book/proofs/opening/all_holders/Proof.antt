@@ -1,24 +1,24 @@
 -- The loop's invariant: the holders from place i on answer for all of them.
-use Prim.Native.Nat.{_-_, _≤_}
+use Prim.Native.Nat.{_-_}
 use native.Mathlib.Omega.{arith}
 use mathlib.Core.Path.{_≡_, refl, sym, ap, _∙_}
-use lib.ListN.{length, drop}
+use lib.ListN.{length, drop, drop-of-length-le}
 use borrow.Author.Needs.{needs}
 use borrow.Author.Tests.{not-true, not-false}
 use Rattle.book.specs.Open.{all}
 use Rattle.book.specs.Positions.{isHolder}
-use Rattle.book.proofs.Asked.{all-passed, all-failed, none-left}
+use Rattle.book.proofs.Asked.{all-passed, all-failed}
 use Rattle.book.proofs.opening.all_holders.Statement.{statement}
 use Rattle.book.proofs.opening.all_holders.Tie as tie
 
 abbrev Inv-loop : tie.InvT-loop
-Inv-loop holders i₀ i = (i ≤ length holders) × (all isHolder holders ≡ all isHolder (drop i holders))
+Inv-loop holders i₀ i = all isHolder holders ≡ all isHolder (drop i holders)
 
 abbrev μ-loop : tie.MeasureT-loop
 μ-loop holders i₀ i = length holders - i
 
 loop-holds : tie.Need-loop-holds Inv-loop μ-loop
-loop-holds c = (omega arith, refl)
+loop-holds c = refl
 
 mul-is-holder : tie.Need-mul-is-holder Inv-loop μ-loop
 mul-is-holder c = omega arith
@@ -33,7 +33,7 @@ returns : tie.Need-returns Inv-loop μ-loop
 returns c =
     let l = c .before .before .before .before .loop in
     let hs = c .before .before .before .before .before .before .args .holders .now in
-    sym (l .inv .1 ∙ all-failed hs (l .i) (omega arith) isHolder (sym (c .before .is-holder .ensures) ∙ not-true (c .before .is-holder .result) (c .if1 .taken)))
+    sym (l .inv ∙ all-failed hs (l .i) (omega arith) isHolder (sym (c .before .is-holder .ensures) ∙ not-true (c .before .is-holder .result) (c .if1 .taken)))
 
 add-i : tie.Need-add-i Inv-loop μ-loop
 add-i c = omega arith
@@ -45,13 +45,13 @@ loop-again : tie.Need-loop-again Inv-loop μ-loop
 loop-again c =
     let l = c .before .before .before .before .loop in
     let hs = c .before .before .before .before .before .before .args .holders .now in
-    (omega arith, l .inv .1 ∙ all-passed hs (l .i) (omega arith) isHolder (sym (c .before .is-holder .ensures) ∙ not-false (c .before .is-holder .result) (c .if1 .left)))
+    l .inv ∙ all-passed hs (l .i) (omega arith) isHolder (sym (c .before .is-holder .ensures) ∙ not-false (c .before .is-holder .result) (c .if1 .left))
 
 returns-2 : tie.Need-returns-2 Inv-loop μ-loop
 returns-2 c =
     let l = c .before .loop in
     let hs = c .before .before .before .args .holders .now in
-    sym (l .inv .1 ∙ ap (all isHolder) (none-left hs (l .i) (omega arith)))
+    sym (l .inv ∙ ap (all isHolder) (drop-of-length-le hs {i = l .i} (omega arith)))
 
 pub all-holders-spec : {M : Type 1} → statement M
 all-holders-spec =

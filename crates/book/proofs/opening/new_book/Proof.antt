@@ -1,6 +1,5 @@
--- The holders placed in the empty book and the other parts set anew make the new book.
+-- The holders placed in an empty book and the other parts set make the new book.
 use borrow.Author.Needs.{needs}
-use mathlib.Core.Path.{refl}
 use Rattle.book.specs.Book.{emptyBook, withHeld, opening}
 use Rattle.book.specs.Open.{newBook}
 use Rattle.book.proofs.opening.new_book.Statement.{statement}
@@ -11,7 +10,7 @@ empty-requires c κs = search needs
 
 place-holders-requires : tie.Need-place-holders-requires
 unfolding emptyBook
-place-holders-requires c κs = (rw (c .empty .ensures), c .before .before .before .pre)
+place-holders-requires c κs = (rw (c .empty .ensures), search needs)
 
 element-set-from-next : tie.Need-element-set-from-next
 element-set-from-next c = search needs

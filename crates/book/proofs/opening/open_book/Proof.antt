@@ -8,7 +8,6 @@ use Rattle.calendar.specs.Calendar.{isDate}
 use Rattle.book.specs.Open.{isTerm, isRecognised, isFinancing}
 use Rattle.book.specs.Outcome.{accept, nothing}
 use Rattle.book.proofs.Financing.{financed}
-use Rattle.book.proofs.Kept.{sound}
 use Rattle.book.proofs.OpenCases.{already-open, no-date, wrong-term, wrong-amount, wrong-rate, wrong-financing, opens-right}
 use Rattle.book.proofs.opening.open_book.Statement.{statement}
 use Rattle.book.proofs.opening.open_book.Tie as tie
@@ -123,7 +122,7 @@ returns-6 c =
 new-book-requires : tie.Need-new-book-requires
 new-book-requires c κs =
     let lists = financed _ _ (financing c) in
-    (sound _ (from-financing c .pre), (lists .one-length, lists .few))
+    (lists .one-length, lists .few)
 
 returns-7 : tie.Need-returns-7
 returns-7 c =

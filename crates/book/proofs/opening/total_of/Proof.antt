@@ -1,22 +1,21 @@
 -- The loop's invariant: the sum and the shares from place i on make up the total.
-use Prim.Native.Nat.{ℕ, _+_, _-_, _*_, _≤_}
+use Prim.Native.Nat.{_+_, _-_, _*_, _≤_}
 use native.Mathlib.Omega.{arith}
 use mathlib.Core.Path.{_≡_, ap}
-use lib.ListN.{length, drop}
+use lib.ListN.{length, drop, drop-of-length-le}
 use Rattle.book.specs.Positions.{total}
-use Rattle.book.proofs.Asked.{total-step, none-left}
+use Rattle.book.proofs.Asked.{total-step}
 use Rattle.book.proofs.opening.total_of.Statement.{statement}
 use Rattle.book.proofs.opening.total_of.Tie as tie
 
 abbrev Inv-loop : tie.InvT-loop
-Inv-loop shares sum₀ i₀ sum i =
-    (i ≤ length shares) × (sum ≤ i * 4294967295) × (total shares ≡ sum + total (drop i shares))
+Inv-loop shares sum₀ i₀ sum i = (sum ≤ i * 4294967295) × (total shares ≡ sum + total (drop i shares))
 
 abbrev μ-loop : tie.MeasureT-loop
 μ-loop shares sum₀ i₀ sum i = length shares - i
 
 loop-holds : tie.Need-loop-holds Inv-loop μ-loop
-loop-holds c = (omega arith, omega arith, omega arith)
+loop-holds c = (omega arith, omega arith)
 
 mul-sum : tie.Need-mul-sum Inv-loop μ-loop
 mul-sum c = omega arith
@@ -41,12 +40,12 @@ loop-again c =
     let l = c .before .before .loop in
     let ss = c .before .before .before .args .shares .now in
     let share = c .shared-slice-known .given (l .i) in
-    (omega arith, omega (arith, share), omega (arith, total-step ss (l .i) (omega arith)))
+    (omega (arith, share), omega (arith, total-step ss (l .i) (omega arith)))
 
 returns : tie.Need-returns Inv-loop μ-loop
 returns c =
     let ss = c .before .before .args .shares .now in
-    omega (arith, ap total (none-left ss (c .before .loop .i) (omega arith)))
+    omega (arith, ap total (drop-of-length-le ss {i = c .before .loop .i} (omega arith)))
 
 pub total-of-spec : {M : Type 1} → statement M
 total-of-spec =

@@ -1,10 +1,25 @@
 -- The positions are paid, the account is paid off and the settlement is put down.
+use Prim.Native.Nat.{ℕ, _-_}
 use native.Mathlib.Omega.{arith}
+use mathlib.Core.Path.{_≡_}
 use borrow.Author.Needs.{needs}
+use Rattle.book.specs.declared.Account.{Account}
+use Rattle.book.specs.declared.Book.{Book}
+use Rattle.book.specs.Accrual.{interestOf, paidOff}
 use Rattle.book.specs.Book.{withHeld, withAccount, withSettlement}
-use Rattle.book.specs.Settle.{settledBook}
+use Rattle.book.specs.Outcome.{accept}
+use Rattle.book.specs.Settle.{paidOut, settledToday, settledBook, takenOf}
+use Rattle.book.proofs.Bounds.{bounded-more}
 use Rattle.book.proofs.settling.settle_today.Statement.{statement}
 use Rattle.book.proofs.settling.settle_today.Tie as tie
+
+-- the answer and the book, made of the interest i and the account a
+outcome : (b : Book) (m i : ℕ) (a : Account) → i ≡ interestOf m (b .account) → a ≡ paidOff m (b .account)
+    → accept (record { interest = record { 0 = i }; principal = record { 0 = m - i } })
+    (withSettlement (withAccount (paidOut b m) a) (settledToday b m))
+    ≡ accept (takenOf b m) (settledBook b m)
+unfolding settledBook
+outcome b m i a e f = rw (e, f)
 
 lesser-requires : tie.Need-lesser-requires
 lesser-requires c κs = search needs
@@ -13,7 +28,8 @@ pay-requires : tie.Need-pay-requires
 pay-requires c κs =
     let s = c .before .before in
     let o = s .pre .0 .when-open (s .pre .1 .0) in
-    (record { principal = o .bounded .principal; below = o .bounded .below; interest = omega (arith, o) }, s .pre .1 .1 .1 .1)
+    let b = s .args .book in
+    (bounded-more (b .today .0) 6000 (b .account) (omega (arith, o)) (o .bounded), s .pre .1 .1 .1 .1)
 
 pay-out-requires : tie.Need-pay-out-requires
 pay-out-requires c κs = search needs
@@ -31,8 +47,12 @@ sub-t15 : tie.Need-sub-t15
 sub-t15 c = search needs
 
 returns : tie.Need-returns
-unfolding settledBook withHeld withAccount withSettlement
-returns c = rw (c .before .before .before .lesser .ensures, c .before .before .pay .ensures, c .pay-out .ensures)
+unfolding withHeld withAccount withSettlement
+returns c =
+    let a = c .before .before .before .before .before .args in
+    let i = c .before .before .before .lesser in
+    let p = c .before .before .pay in
+    rw (c .pay-out .ensures) (outcome (a .book) (a .cents) (i .result) (p .result) (i .ensures) (p .ensures))
 
 pub settle-today-spec : {M : Type 1} → statement M
 settle-today-spec =
