@@ -1,6 +1,8 @@
 //! Civil dates. The calendar is the list of all its dates, made by going from
 //! each day to the next; every question is answered by looking into that list.
 
+use std::sync::OnceLock;
+
 use crate::refusal::Refusal;
 
 pub const FIRST: u32 = 20000101;
@@ -12,14 +14,18 @@ pub struct Calendar {
 }
 
 impl Calendar {
-    pub fn gregorian() -> Self {
-        let mut dates = vec![FIRST];
-        let mut date = FIRST;
-        while date != LAST {
-            date = next_day(date);
-            dates.push(date);
-        }
-        Calendar { dates }
+    /// The one calendar there is. Its list is made when it is first asked for.
+    pub fn gregorian() -> &'static Self {
+        static GREGORIAN: OnceLock<Calendar> = OnceLock::new();
+        GREGORIAN.get_or_init(|| {
+            let mut dates = vec![FIRST];
+            let mut date = FIRST;
+            while date != LAST {
+                date = next_day(date);
+                dates.push(date);
+            }
+            Calendar { dates }
+        })
     }
 
     pub fn is_date(&self, number: u32) -> bool {

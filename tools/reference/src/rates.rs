@@ -1,15 +1,24 @@
 //! Daily rates, in units of 1/10^10, from annual rates in thousandths of a percent.
 
+use std::sync::OnceLock;
+
 use crate::big::Natural;
 use crate::refusal::Refusal;
 
 pub const HIGHEST_ANNUAL: u64 = 4_000;
 
-/// The largest whole d with (10^10 + d)^365 ≤ (100,000 + annual) × 10^3645.
+/// The daily rate of an annual one, searched for when it is first asked for.
 pub fn daily(annual: u64) -> Result<u64, Refusal> {
+    static FOUND: [OnceLock<u64>; HIGHEST_ANNUAL as usize + 1] =
+        [const { OnceLock::new() }; HIGHEST_ANNUAL as usize + 1];
     if annual > HIGHEST_ANNUAL {
         return Err(Refusal::Rate);
     }
+    Ok(*FOUND[annual as usize].get_or_init(|| search(annual)))
+}
+
+/// The largest whole d with (10^10 + d)^365 ≤ (100,000 + annual) × 10^3645.
+fn search(annual: u64) -> u64 {
     let limit = ten_to_the_3645().times(100_000 + annual);
     // 0 is within the limit: its power is 10^3650, the limit for annual 0.
     // 2,000,000 is beyond it: 365 such days come to over 7.3 percent, and the
@@ -23,7 +32,7 @@ pub fn daily(annual: u64) -> Result<u64, Refusal> {
             beyond = middle;
         }
     }
-    Ok(within)
+    within
 }
 
 /// (10^10 + d)^365: a year at the daily rate d.

@@ -4,7 +4,10 @@
 use std::fmt::Display;
 
 use crate::apportionment::{apportion, HIGHEST_AMOUNT, PLACES};
+use crate::book::Book;
 use crate::calendar::{month_length, Calendar, FIRST, LAST};
+use crate::call_cases::call_cases;
+use crate::random::Random;
 use crate::rates::{daily, HIGHEST_ANNUAL};
 use crate::refusal::Refusal;
 
@@ -26,14 +29,14 @@ pub fn rates() -> Vec<String> {
 }
 
 pub fn calendar_input() -> Vec<String> {
-    let cases = calendar_cases(&Calendar::gregorian());
+    let cases = calendar_cases(Calendar::gregorian());
     counted(cases.iter().map(|case| spaced(case)).collect())
 }
 
 pub fn calendar_output() -> Vec<String> {
     let calendar = Calendar::gregorian();
-    let mut lines = year_lines(&calendar);
-    for [a, n, b] in calendar_cases(&calendar) {
+    let mut lines = year_lines(calendar);
+    for [a, n, b] in calendar_cases(calendar) {
         lines.push(format!(
             "{} {} {} {}",
             u8::from(calendar.is_date(a)),
@@ -65,6 +68,20 @@ pub fn apportionment_output() -> Vec<String> {
             Err(fault) => (fault as u32, [0; PLACES]),
         };
         lines.push(format!("{answer} {}", spaced(&parts)));
+    }
+    lines
+}
+
+pub fn call_input() -> Vec<String> {
+    counted(call_cases().iter().map(|call| call.to_string()).collect())
+}
+
+pub fn call_output() -> Vec<String> {
+    let mut book = Book::empty();
+    let mut lines = Vec::new();
+    for call in call_cases() {
+        let answer = call.run(&mut book);
+        lines.push(call.answer_line(&answer));
     }
     lines
 }
@@ -394,39 +411,13 @@ fn apportionment_cases() -> Vec<ApportionmentCase> {
     cases.0
 }
 
-/// Marsaglia's xorshift generator, always from the same seed.
-struct Random(u64);
-
-impl Random {
-    fn new() -> Self {
-        Random(20140101)
-    }
-
-    fn next(&mut self) -> u64 {
-        self.0 ^= self.0 << 13;
-        self.0 ^= self.0 >> 7;
-        self.0 ^= self.0 << 17;
-        self.0
-    }
-
-    fn below(&mut self, bound: u64) -> u64 {
-        self.next() % bound
-    }
-
-    /// From one to `most` weights, each below the bound.
-    fn weights(&mut self, most: u64, bound: u64) -> Vec<u64> {
-        let size = 1 + self.below(most);
-        (0..size).map(|_| self.below(bound)).collect()
-    }
-}
-
 #[cfg(test)]
 mod tests {
     use super::*;
 
     #[test]
     fn inputs_begin_with_their_number_of_cases() {
-        for lines in [calendar_input(), apportionment_input()] {
+        for lines in [calendar_input(), apportionment_input(), call_input()] {
             assert_eq!(lines[0], (lines.len() - 1).to_string());
         }
     }
@@ -436,6 +427,7 @@ mod tests {
         assert_eq!(calendar_output().len(), 202 + calendar_input().len() - 1);
         let output = apportionment_output();
         assert_eq!(output.len(), apportionment_input().len() - 1);
+        assert_eq!(call_output().len(), call_input().len() - 1);
     }
 
     #[test]
@@ -443,13 +435,17 @@ mod tests {
         assert!(calendar_input().len() > 400);
         let lines = apportionment_input();
         assert!(lines.iter().all(|line| line.len() <= 1_400));
-        let bytes: usize = lines.iter().map(|line| line.len() + 1).sum();
-        assert!(bytes < 60_000);
+        assert!(bytes(&lines) < 60_000);
+        assert!(bytes(&call_input()) < 62_000);
+    }
+
+    fn bytes(lines: &[String]) -> usize {
+        lines.iter().map(|line| line.len() + 1).sum()
     }
 
     #[test]
     fn years_without_dates_leave_the_digest() {
-        let lines = year_lines(&Calendar::gregorian());
+        let lines = year_lines(Calendar::gregorian());
         assert_eq!(lines[0], "1999 0 0");
         assert!(lines[1].starts_with("2000 366 "));
         let digest = lines[200].strip_prefix("2199 365 ").unwrap();
