@@ -6,20 +6,25 @@ use mathlib.Core.Bool.{true, false, not, _&&_, _||_}
 use mathlib.Core.List.{List}
 use borrow.Author.Tests.{eqb-false, leb-true, leb-false, ltb-false, not-true, not-false}
 use lib.Dec.{eqb, leb, ltb}
+use lib.ListN.{length}
 use Rattle.calendar.specs.Calendar.{isDate, dayCount}
+use Rattle.book.specs.declared.Account.{Account}
 use Rattle.book.specs.declared.Book.{Book}
 use Rattle.book.specs.declared.Cents.{Cents}
 use Rattle.book.specs.declared.Day.{Day}
 use Rattle.book.specs.declared.Parts.{Parts}
+use Rattle.book.specs.declared.RateOrder.{RateOrder}
 use Rattle.book.specs.declared.Refusal.{Refusal}
 use Rattle.book.specs.declared.Refusal.the-variants as refusal
 use Rattle.book.specs.Accrual.{worth}
 use Rattle.book.specs.Advance.{lastSettled, daysPassed, countOfDay, advancedTo, advanced}
-use Rattle.book.specs.Book.{held, withHeld}
+use Rattle.book.specs.Book.{held, ratesOf, settlementsOf, orderFrom, withHeld}
 use Rattle.book.specs.Open.{isFinancing, isTerm, isRecognised, newBook, opened}
-use Rattle.book.specs.Outcome.{Outcome, Taken, refusalNumber, accept, refuse, nothing, noDays, noParts, nothingTaken}
+use Rattle.book.specs.Outcome.{Outcome, Taken, Changes, refusalNumber, accept, refuse, nothing, noDays, noParts, nothingTaken, noChanges}
 use Rattle.book.specs.Positions.{isHolder, present, shareOf, change, less, given}
+use Rattle.book.specs.Rate.{startingBefore, withRate, withRates, changesOf, revised, ratedFrom, rated}
 use Rattle.book.specs.Settle.{settledBook, takenOf, settled}
+use Rattle.book.specs.Standing.{accountAt, overpaid}
 use Rattle.book.specs.Transfer.{moved, transferred}
 use Rattle.book.proofs.Cases.{choice, both-true, neither-true}
 use Rattle.book.proofs.Financing.{Financed, financed}
@@ -111,6 +116,57 @@ module _ (b : Book) (date : ℕ) (P : Outcome Day → Type 0) where
         after-today = leb-false _ _ (day .0);
         within-term = ltb-false _ _ (day .1);
         settlement-near = ltb-false _ _ s;
+      }
+
+-- Rate
+
+-- the order of a date
+abbrev pub orderOf : Book → ℕ → ℕ → RateOrder
+orderOf b date annual = orderFrom (dayCount date - dayCount (b .first)) annual
+
+-- the rates with an order, the account under them, and the book with both
+abbrev pub ratesAfter : Book → RateOrder → List RateOrder
+ratesAfter b o = withRate o (ratesOf b)
+
+abbrev pub accountAfter : Book → RateOrder → Account
+accountAfter b o = accountAt (b .recognised .0) (ratesAfter b o) (settlementsOf b) (b .today .0)
+
+abbrev pub revisedBook : Book → RateOrder → Book
+revisedBook b o = withRates b (ratesAfter b o) (accountAfter b o)
+
+pub record RateRight (b : Book) (date annual : ℕ) : Type 0 where
+  pub is-open : b .opened ≡ true
+  pub is-date : isDate date ≡ true
+  pub annual-most : annual ≤ 4000
+  pub from-first : countOfDay b 0 ≤ dayCount date
+  pub by-today : dayCount date ≤ countOfDay b (b .today .0)
+  pub place-free : length (startingBefore (orderOf b date annual .first .0) (ratesOf b)) < 16
+  pub none-over : overpaid (b .recognised .0) (ratesAfter b (orderOf b date annual)) (settlementsOf b) ≡ false
+
+module _ (b : Book) (date annual : ℕ) (P : Outcome Changes → Type 0) where
+  pub rate-cases : ((r : Refusal) → P (refuse noChanges b r))
+      → (RateRight b date annual
+      → P (accept (changesOf (b .account) (accountAfter b (orderOf b date annual))) (revisedBook b (orderOf b date annual))))
+      → P (rated b date annual)
+  unfolding rated ratedFrom revised
+  rate-cases refused accepted =
+      let o = orderOf b date annual in
+      choice P (not (b .opened)) (λ _. refused refusal.Unopened) λ n.
+      choice P (not (isDate date)) (λ _. refused refusal.Date) λ d.
+      choice P (ltb 4000 annual) (λ _. refused refusal.Rate) λ r.
+      choice P (ltb (dayCount date) (countOfDay b 0) || ltb (countOfDay b (b .today .0)) (dayCount date)) (λ _. refused refusal.Day) λ t.
+      choice P (leb 16 (length (startingBefore (o .first .0) (ratesOf b)))) (λ _. refused refusal.BookFull) λ f.
+      choice P (overpaid (b .recognised .0) (ratesAfter b o) (settlementsOf b)) (λ _. refused refusal.Overpaid) λ w.
+      let day = neither-true (ltb (dayCount date) (countOfDay b 0)) (ltb (countOfDay b (b .today .0)) (dayCount date)) t in
+      accepted
+      record {
+        is-open = not-false _ n;
+        is-date = not-false _ d;
+        annual-most = ltb-false _ _ r;
+        from-first = ltb-false _ _ (day .0);
+        by-today = ltb-false _ _ (day .1);
+        place-free = leb-false _ _ f;
+        none-over = w;
       }
 
 -- Transfer

@@ -8,14 +8,16 @@ use Rattle.book.specs.declared.Day.{Day}
 use Rattle.book.specs.declared.Parts.{Parts}
 use Rattle.book.specs.declared.Opened.{Opened}
 use Rattle.book.specs.declared.Advanced.{Advanced}
+use Rattle.book.specs.declared.Rated.{Rated}
 use Rattle.book.specs.declared.Transferred.{Transferred}
 use Rattle.book.specs.declared.Settled.{Settled}
-use Rattle.book.specs.Outcome.{openStated, advanceStated, transferStated, settleStated}
+use Rattle.book.specs.Outcome.{openStated, advanceStated, rateStated, transferStated, settleStated}
 use Rattle.book.specs.Open.{opened}
 use Rattle.book.specs.Advance.{advanced}
+use Rattle.book.specs.Rate.{rated}
 use Rattle.book.specs.Transfer.{transferred}
 use Rattle.book.specs.Settle.{settled}
-use Rattle.book.specs.Reached.{Reached, opens, advances, transfers, settles}
+use Rattle.book.specs.Reached.{Reached, opens, advances, rates, transfers, settles}
 
 module _ (b : Book) (reached : Reached b) where
   pub open-reached : (first : ℕ) (term : Day) (annual : ℕ) (cents : Cents) (hs ss : List ℕ) (r : Opened)
@@ -25,6 +27,9 @@ module _ (b : Book) (reached : Reached b) where
 
   pub advance-reached : (date : ℕ) (r : Advanced) → advanceStated r ≡ advanced b date → Reached (r .book)
   advance-reached date r e = subst Reached (ap (λ o. o .book) (sym e)) (advances reached date)
+
+  pub rate-reached : (date annual : ℕ) (r : Rated) → rateStated r ≡ rated b date annual → Reached (r .book)
+  rate-reached date annual r e = subst Reached (ap (λ o. o .book) (sym e)) (rates reached date annual)
 
   pub transfer-reached : (cedent assignee : ℕ) (parts : Parts) (r : Transferred)
       → transferStated r ≡ transferred b cedent assignee parts → Reached (r .book)

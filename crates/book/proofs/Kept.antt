@@ -12,7 +12,7 @@ use Rattle.book.specs.declared.Position.{Position}
 use Rattle.book.specs.Book.{emptyBook, held}
 use Rattle.book.specs.Outcome.{noPosition}
 use Rattle.book.specs.Positions.{paidFrom, unitDays}
-use Rattle.book.specs.Reached.{Reached, empty, opens, advances, transfers, settles}
+use Rattle.book.specs.Reached.{Reached, empty, opens, advances, rates, transfers, settles}
 use Rattle.book.specs.Settle.{settledBook, settled}
 use Rattle.book.specs.Sound.{Sound}
 use Rattle.book.proofs.Accepted.{SettleRight, settle-cases}
@@ -20,6 +20,7 @@ use Rattle.book.proofs.AdvanceKept.{advance-kept}
 use Rattle.book.proofs.Cases.{by-order, true-not-false}
 use Rattle.book.proofs.OpenKept.{open-kept}
 use Rattle.book.proofs.Paid.{length-paid, paid-at, held-settled}
+use Rattle.book.proofs.RateKept.{rate-kept}
 use Rattle.book.proofs.SettleKept.{settle-kept}
 use Rattle.book.proofs.ListTotals.{weight-total}
 use Rattle.book.proofs.TransferKept.{transfer-kept}
@@ -42,6 +43,7 @@ sound b r = go r
     go empty = empty-sound
     go (opens r first term annual cents hs ss) = open-kept _ (go r) first term annual cents hs ss
     go (advances r date) = advance-kept _ (go r) date
+    go (rates r date annual) = rate-kept _ (go r) date annual
     go (transfers r cedent assignee parts) = transfer-kept _ (go r) cedent assignee parts
     go (settles r cents) = settle-kept _ (go r) cents
 

@@ -30,3 +30,13 @@ pub mod Steps
 pub mod Settlements
 pub mod Readings
 pub mod OpenCases
+pub mod SettledDays
+pub mod AccountSteps
+pub mod RateOrders
+pub mod NotOverpaid
+pub mod StandingKept
+pub mod AccountBounds
+pub mod StoredRates
+pub mod Replays
+pub mod RateKept
+pub mod Differences

@@ -8,22 +8,25 @@ use Rattle.apportionment.specs.Apportionment.{part}
 use Rattle.book.specs.declared.Book.{Book}
 use Rattle.book.specs.declared.Cents.{Cents}
 use Rattle.book.specs.declared.Day.{Day}
+use Rattle.book.specs.declared.RateOrder.{RateOrder}
 use Rattle.book.specs.Accrual.{paidOff}
 use Rattle.book.specs.Advance.{daysPassed}
 use Rattle.book.specs.Book.{held, ratesOf, settlementsOf, withHeld, withAccount, withToday, withSettlement, orderFrom, opening}
 use Rattle.book.specs.Open.{founded, newBook}
 use Rattle.book.specs.Positions.{paidFrom, unitDays, shares, receipts, holders}
+use Rattle.book.specs.Rate.{withRates}
 use Rattle.book.specs.Schedule.{dailyOn}
 use Rattle.book.specs.Settle.{settledToday, settledBook}
 use Rattle.book.specs.Sound.{Sound}
 use Rattle.book.specs.Computation.{elapsed, daysHeld}
-use Rattle.book.proofs.Accepted.{AdvanceRight, SettleRight, daysTo}
+use Rattle.book.proofs.Accepted.{AdvanceRight, SettleRight, daysTo, ratesAfter, accountAfter, revisedBook}
 use Rattle.book.proofs.Assigned.{assigned}
 use Rattle.book.proofs.ChangedBook.{Roomy, held-withHeld}
 use Rattle.book.proofs.DaysHeld.{holders-days, shares-days, receipts-days}
 use Rattle.book.proofs.DaysPassed.{passedAtOnce, days-at-once}
 use Rattle.book.proofs.OpenKept.{held-new, rates-new}
 use Rattle.book.proofs.Paid.{held-settled, holders-settled, shares-settled}
+use Rattle.book.proofs.RateOrders.{rates-withRates}
 use Rattle.book.proofs.SettleKept.{settlements-settled}
 
 -- b is the book that came in, c the one that is given back
@@ -56,6 +59,18 @@ pub record AdvanceStep (n : ℕ) (b c : Book) : Type 0 where
   pub today : c .today .0 ≡ b .today .0 + n
   pub account : c .account ≡ elapsed (dailyOn (ratesOf b)) (b .today .0) n (b .account)
   pub positions : held c ≡ map (daysHeld n) (held b)
+
+-- rates and account, and nothing else
+pub record RateStep (o : RateOrder) (b c : Book) : Type 0 where
+  pub opened : c .opened ≡ b .opened
+  pub first : c .first ≡ b .first
+  pub term : c .term ≡ b .term
+  pub recognised : c .recognised ≡ b .recognised
+  pub today : c .today ≡ b .today
+  pub settlements : settlementsOf c ≡ settlementsOf b
+  pub positions : held c ≡ held b
+  pub rates : ratesOf c ≡ ratesAfter b o
+  pub account : c .account ≡ accountAfter b o
 
 pub record TransferStep (cedent assignee n : ℕ) (b c : Book) : Type 0 where
   pub same : SameRight b c
@@ -109,6 +124,21 @@ module _ (b : Book) (h : Sound b) where
   advance-step date right =
       let room : Roomy b = omega (arith, h .when-open (right .is-open) .positions-most, h .room-positions) in
       rw (days-at-once b room (daysTo b date)) (at-once (daysTo b date))
+
+  pub rate-step : (o : RateOrder) → RateStep o b (revisedBook b o)
+  unfolding withRates
+  rate-step o =
+      record {
+        opened = refl;
+        first = refl;
+        term = refl;
+        recognised = refl;
+        today = refl;
+        settlements = refl;
+        positions = refl;
+        rates = rates-withRates b (ratesAfter b o) (accountAfter b o);
+        account = refl;
+      }
 
   pub transfer-step : (cedent assignee n : ℕ) → TransferStep cedent assignee n b (withHeld b (assigned cedent assignee n (held b)))
   unfolding withHeld

@@ -10,8 +10,11 @@ use Rattle.book.specs.declared.RateOrder.{RateOrder}
 use Rattle.book.specs.declared.Settlement.{Settlement}
 use Rattle.book.specs.declared.positions.Found.{Found}
 use Rattle.book.specs.declared.positions.Found.the-variants.{At, Nothing}
+use Rattle.book.specs.declared.rating.Replayed.{Replayed}
+use Rattle.book.specs.declared.rating.Replayed.the-variants.{Standing, Overpaid}
 use Rattle.book.specs.Accrual.{accruedDay}
 use Rattle.book.specs.Positions.{place, present}
+use Rattle.book.specs.Standing.{accountAt, overpaid}
 
 -- Positions
 
@@ -68,3 +71,8 @@ FromStart (o ∷ os) today = (o .first .0 ≡ 0) × Rising 0 os today
 abbrev pub Timely : ℕ → List Settlement → ℕ → Type 0
 Timely from [] today = from ≤ today
 Timely from (s ∷ ss) today = (from < s .day .0) × Timely (s .day .0) ss today
+
+-- Rate: the account of today under some rates, or that some settlement is over
+unfoldable pub replayed : ℕ → List RateOrder → List Settlement → ℕ → Replayed
+replayed recognised orders settlements today =
+    cond (overpaid recognised orders settlements) Overpaid (Standing (accountAt recognised orders settlements today))

@@ -9,6 +9,9 @@ pub mod Advance
 pub mod Transfer
 pub mod Settle
 pub mod Read
+pub mod Standing
+pub mod Rate
+pub mod Calls
 pub mod Reached
 pub mod Computation
 pub mod Sound

@@ -1,6 +1,7 @@
 -- What a call gives back, as document 01 puts it: the number of its table, what it answers, and the book. "A refusal gives back its number,
 -- with 0 in every other field .., and the book that came in."
 use Prim.Native.Nat.{ℕ}
+use lib.IntN.{pos}
 use Rattle.calendar.specs.Answers.{dateNumber}
 use Rattle.rates.specs.Rate.{rateNumber}
 use Rattle.book.specs.declared.Account.{Account}
@@ -23,6 +24,10 @@ use Rattle.book.specs.declared.Transferred.{Transferred}
 use Rattle.book.specs.declared.SettleAnswer.the-variants as settle-answer
 use Rattle.book.specs.declared.SettleAnswer.{SettleAnswer}
 use Rattle.book.specs.declared.Settled.{Settled}
+use Rattle.book.specs.declared.RateAnswer.the-variants as rate-answer
+use Rattle.book.specs.declared.RateAnswer.{RateAnswer}
+use Rattle.book.specs.declared.Rated.{Rated}
+use Rattle.book.specs.declared.CentsChange.{CentsChange}
 use Rattle.book.specs.declared.PositionAnswer.the-variants as position-answer
 use Rattle.book.specs.declared.PositionAnswer.{PositionAnswer}
 use Rattle.book.specs.declared.PlaceAnswer.the-variants as place-answer
@@ -88,6 +93,13 @@ pub record Taken : Type 0 where
 abbrev pub nothingTaken : Taken
 nothingTaken = record { interest = record { 0 = 0 }; principal = record { 0 = 0 } }
 
+pub record Changes : Type 0 where
+  pub outstanding : CentsChange
+  pub due : CentsChange
+
+abbrev pub noChanges : Changes
+noChanges = record { outstanding = record { 0 = pos 0 }; due = record { 0 = pos 0 } }
+
 abbrev pub noPosition : Position
 noPosition = fresh 0 0
 
@@ -134,6 +146,13 @@ settleCase (settle-answer.Refused r) = declined nothingTaken r
 
 abbrev pub settleStated : Settled → Outcome Taken
 settleStated o = record { answer = settleCase (o .answer); book = o .book }
+
+abbrev pub rateCase : RateAnswer → Answer Changes
+rateCase (rate-answer.Revised o d) = answered (record { outstanding = o; due = d })
+rateCase (rate-answer.Refused r) = declined noChanges r
+
+abbrev pub rateStated : Rated → Outcome Changes
+rateStated o = record { answer = rateCase (o .answer); book = o .book }
 
 abbrev pub positionStated : PositionAnswer → Answer Position
 positionStated (position-answer.Held p) = answered p

@@ -8,6 +8,7 @@ use Rattle.book.specs.declared.Parts.{Parts}
 use Rattle.book.specs.Book.{emptyBook}
 use Rattle.book.specs.Open.{opened}
 use Rattle.book.specs.Advance.{advanced}
+use Rattle.book.specs.Rate.{rated}
 use Rattle.book.specs.Transfer.{transferred}
 use Rattle.book.specs.Settle.{settled}
 
@@ -16,5 +17,6 @@ pub data Reached : Book → Type 0 where
   empty : Reached emptyBook
   opens : {b : Book} → Reached b → (first : ℕ) (term : Day) (annual : ℕ) (cents : Cents) (hs ss : List ℕ) → Reached (opened b first term annual cents hs ss .book)
   advances : {b : Book} → Reached b → (date : ℕ) → Reached (advanced b date .book)
+  rates : {b : Book} → Reached b → (date annual : ℕ) → Reached (rated b date annual .book)
   transfers : {b : Book} → Reached b → (cedent assignee : ℕ) (parts : Parts) → Reached (transferred b cedent assignee parts .book)
   settles : {b : Book} → Reached b → (cents : Cents) → Reached (settled b cents .book)

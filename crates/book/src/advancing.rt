@@ -29,47 +29,48 @@ fn refused(book: Book, refusal: Refusal) -> Advanced
 }
 
 // The day count of a date.
-fn count_of(date: u32) -> u32
+pub fn count_of(date: u32) -> u32
     requires { ⌜ isDate date ≡ true ⌝ }
     ensures { λ r. ⌜ r ≡ dayCount date ⌝ }
 {
     match calendar::day_count(date) {
         DayCount::Day(count) => count,
+        // Not reached: every date has a day count.
         DayCount::NoDate => 0,
     }
 }
 
 // The day of the last settlement, or day 0.
-pub fn last_settled(book: Book) -> u32
+pub fn last_settled(book: Book) -> Day
     requires { ⌜ Sound book ⌝ }
     requires { ⌜ book .opened ≡ true ⌝ }
-    ensures { λ r. ⌜ r ≡ lastSettled book ⌝ }
+    ensures { λ r. ⌜ r .0 ≡ lastSettled book ⌝ }
 {
     let settled = book.settled;
     if settled == 0 {
-        return 0;
+        return Day(0);
     }
-    let last = settled - 1;
-    book.settlements[last].day.0
+    let last = book.settlements[settled - 1];
+    last.day
 }
 
 // A position after so many days.
-fn held_for(position: Position, days: u32) -> Position
-    requires { ⌜ (position .«unit_days» ≤ 92000000) × (position .share .0 ≤ 1000000) × (days ≤ 92) ⌝ }
-    ensures { λ r. ⌜ r ≡ daysHeld days position ⌝ }
+fn held_for(position: Position, days: Day) -> Position
+    requires { ⌜ (position .«unit_days» ≤ 92000000) × (position .share .0 ≤ 1000000) × (days .0 ≤ 92) ⌝ }
+    ensures { λ r. ⌜ r ≡ daysHeld (days .0) position ⌝ }
 {
     let mut next = position;
-    let gain = position.share.0 * (days as u64);
+    let gain = position.share.0 * (days.0 as u64);
     next.unit_days = position.unit_days + gain;
     next
 }
 
 // Every position gains its share in unit-days, for so many days.
-fn hold_days(book: Book, days: u32) -> Book
+fn hold_days(book: Book, days: Day) -> Book
     requires { ⌜ Sound book ⌝ }
     requires { ⌜ book .opened ≡ true ⌝ }
-    requires { ⌜ days ≤ 92 ⌝ }
-    ensures { λ r. ⌜ r ≡ withHeld book (map (daysHeld days) (held book)) ⌝ }
+    requires { ⌜ days .0 ≤ 92 ⌝ }
+    ensures { λ r. ⌜ r ≡ withHeld book (map (daysHeld (days .0)) (held book)) ⌝ }
 {
     let mut next = book;
     let count = book.count;
@@ -84,18 +85,18 @@ fn hold_days(book: Book, days: u32) -> Book
 }
 
 // So many days pass, at once.
-fn pass_days(book: Book, days: u32) -> Book
+fn pass_days(book: Book, days: Day) -> Book
     requires { ⌜ Sound book ⌝ }
     requires { ⌜ book .opened ≡ true ⌝ }
-    requires { ⌜ (days ≤ 92) × (book .today .0 + days ≤ 6000) ⌝ }
-    ensures { λ r. ⌜ r ≡ daysPassed days book ⌝ }
+    requires { ⌜ (days .0 ≤ 92) × (book .today .0 + days .0 ≤ 6000) ⌝ }
+    ensures { λ r. ⌜ r ≡ daysPassed (days .0) book ⌝ }
 {
     let account = book.account;
     let rates = book.rates;
     let rated = book.rated;
-    let today = book.today.0;
-    let end = today + days;
-    let accrued = elapse(account, rates, rated, today, end);
+    let today = book.today;
+    let end = today.0 + days.0;
+    let accrued = elapse(account, rates, rated, today, Day(end));
     let mut next = hold_days(book, days);
     next.account = accrued;
     next.today.0 = end;
@@ -117,13 +118,13 @@ fn advance_to(book: Book, count: u32) -> Advanced
     if first + book.term.0 < count {
         return refused(book, Refusal::Day);
     }
-    if first + (last_settled(book) + Book::SETTLEMENT_DAYS) < count {
+    if first + (last_settled(book).0 + Book::SETTLEMENT_DAYS) < count {
         return refused(book, Refusal::SettlementPending);
     }
     let days = count - today;
     Advanced {
         answer: AdvanceAnswer::Passed(Day(days)),
-        book: pass_days(book, days),
+        book: pass_days(book, Day(days)),
     }
 }
 

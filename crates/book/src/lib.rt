@@ -3,12 +3,14 @@ mod accrual;
 mod advancing;
 mod opening;
 mod positions;
+mod rating;
 mod reading;
 mod settling;
 mod transferring;
 
 pub use crate::advancing::advance;
 pub use crate::opening::open_book;
+pub use crate::rating::rate;
 pub use crate::reading::position_at;
 pub use crate::reading::position_of;
 pub use crate::reading::totals;
@@ -20,6 +22,9 @@ ghost use Rattle.book.specs.Outcome.{refusalNumber};
 
 // Money, in whole cents.
 pub struct Cents(pub u64);
+
+// A difference of money, in whole cents.
+pub struct CentsChange(pub i64);
 
 // Share parts: 1,000,000 are the whole right.
 pub struct Parts(pub u64);
@@ -156,6 +161,20 @@ pub struct Settled {
     pub book: Book,
 }
 
+// How a revised rate changed outstanding and interest due.
+pub enum RateAnswer {
+    Revised {
+        outstanding: CentsChange,
+        due: CentsChange,
+    },
+    Refused(Refusal),
+}
+
+pub struct Rated {
+    pub answer: RateAnswer,
+    pub book: Book,
+}
+
 pub enum PositionAnswer {
     Held(Position),
     Refused(Refusal),
@@ -182,6 +201,24 @@ impl Book {
     pub const RATES: usize = 16;
 
     pub const SETTLEMENT_DAYS: u32 = 92;
+
+    // The longest term, in days.
+    const LONGEST_TERM: u32 = 6000;
+
+    // The latest date that a right begins on.
+    const LAST_FIRST_DAY: u32 = 20991231;
+
+    // The most cents that a right is recognised with.
+    const GREATEST_RECOGNISED: u64 = 1000000000000;
+
+    // The most cents of one settlement.
+    const GREATEST_PAYMENT: u64 = 100000000000;
+
+    // The greatest number of a holder.
+    const GREATEST_HOLDER: u32 = 999999999;
+
+    // The parts of the whole right.
+    const WHOLE: u64 = 1000000;
 
     pub fn empty() -> Book
         ensures { λ r. ⌜ r ≡ emptyBook ⌝ }

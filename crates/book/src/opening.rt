@@ -1,6 +1,5 @@
 // Open (document 01): a right is recognised, with its holders and their shares.
 ghost use mathlib.Core.Path.{_≡_};
-ghost use mathlib.Core.Bool.{false};
 ghost use Prim.Native.Nat.{_+_, _≤_, _<_};
 ghost use lib.ListN.{length, getD, drop};
 ghost use Rattle.book.specs.Book.{withHeld};
@@ -28,25 +27,25 @@ fn refused(book: Book, refusal: Refusal) -> Opened
     }
 }
 
-fn is_term(first: u32, term: u32) -> bool
-    ensures { λ r. ⌜ r ≡ isTerm first term ⌝ }
+fn is_term(first: u32, term: Day) -> bool
+    ensures { λ r. ⌜ r ≡ isTerm first (term .0) ⌝ }
 {
-    if term < 1 {
+    if term.0 < 1 {
         return false;
     }
-    if 6000 < term {
+    if Book::LONGEST_TERM < term.0 {
         return false;
     }
-    first <= 20991231
+    first <= Book::LAST_FIRST_DAY
 }
 
-fn is_recognised(cents: u64) -> bool
-    ensures { λ r. ⌜ r ≡ isRecognised cents ⌝ }
+fn is_recognised(cents: Cents) -> bool
+    ensures { λ r. ⌜ r ≡ isRecognised (cents .0) ⌝ }
 {
-    if cents == 0 {
+    if cents.0 == 0 {
         return false;
     }
-    cents <= 1000000000000
+    cents.0 <= Book::GREATEST_RECOGNISED
 }
 
 fn all_holders(holders: &[u32]) -> bool
@@ -104,9 +103,9 @@ fn all_shares(shares: &[u32]) -> bool
     true
 }
 
-fn total_of(shares: &[u32]) -> u64
+fn total_of(shares: &[u32]) -> Parts
     requires { ⌜ length (now shares) ≤ 64 ⌝ }
-    ensures { λ r. ⌜ r ≡ total (now (shares .entry)) ⌝ }
+    ensures { λ r. ⌜ r .0 ≡ total (now (shares .entry)) ⌝ }
 {
     let mut sum: u64 = 0;
     let mut i: usize = 0;
@@ -114,7 +113,7 @@ fn total_of(shares: &[u32]) -> u64
         sum += shares[i] as u64;
         i += 1;
     }
-    sum
+    Parts(sum)
 }
 
 fn is_financing(holders: &[u32], shares: &[u32]) -> bool
@@ -139,7 +138,7 @@ fn is_financing(holders: &[u32], shares: &[u32]) -> bool
     if !all_shares(shares) {
         return false;
     }
-    total_of(shares) == 1000000
+    total_of(shares).0 == Book::WHOLE
 }
 
 // The positions of the holders, in their order.
@@ -216,10 +215,10 @@ pub fn open_book(
     if !calendar::is_date(first) {
         return refused(book, Refusal::Date);
     }
-    if !is_term(first, term.0) {
+    if !is_term(first, term) {
         return refused(book, Refusal::Term);
     }
-    if !is_recognised(cents.0) {
+    if !is_recognised(cents) {
         return refused(book, Refusal::Amount);
     }
     if rates::GREATEST < annual {

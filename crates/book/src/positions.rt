@@ -20,7 +20,7 @@ pub fn is_holder(number: u32) -> bool
     if number == 0 {
         return false;
     }
-    number <= 999999999
+    number <= Book::GREATEST_HOLDER
 }
 
 pub fn find(positions: [Position; Book::POSITIONS], count: usize, holder: u32) -> Found

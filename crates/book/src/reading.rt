@@ -69,6 +69,7 @@ pub fn totals(book: Book) -> TotalsAnswer
             today: today,
             account: account,
         },
+        // Not reached: a right begins by 20991231 and has 6,000 days at most, so today is a date.
         DateSum::Refused => TotalsAnswer::Totals {
             today: 0,
             account: account,

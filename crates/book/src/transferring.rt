@@ -29,31 +29,31 @@ fn refused(book: Book, refusal: Refusal) -> Transferred
 }
 
 // The parts move from place `from`, the cedent's.
-fn move_parts(book: Book, from: usize, cedent: u32, assignee: u32, parts: u64) -> Transferred
+fn move_parts(book: Book, from: usize, cedent: u32, assignee: u32, parts: Parts) -> Transferred
     requires { ⌜ Sound book ⌝ }
     requires { ⌜ book .opened ≡ true ⌝ }
     requires { ⌜ (from ≡ place cedent (held book)) × (from < book .count) ⌝ }
     requires { ⌜ (cedent ≡ assignee → ⊥) ⌝ }
-    ensures { λ r. ⌜ transferStated r ≡ moved book cedent assignee parts ⌝ }
+    ensures { λ r. ⌜ transferStated r ≡ moved book cedent assignee (parts .0) ⌝ }
 {
     let mut giver = book.positions[from];
-    let has = giver.share.0;
-    if parts == 0 {
+    let has = giver.share;
+    if parts.0 == 0 {
         return refused(book, Refusal::Share);
     }
-    if has < parts {
+    if has.0 < parts.0 {
         return refused(book, Refusal::Share);
     }
-    let kept = has - parts;
-    giver.share.0 = kept;
+    let kept = Parts(has.0 - parts.0);
+    giver.share = kept;
     let mut next = book;
     let positions = book.positions;
     let count = book.count;
     match find(positions, count, assignee) {
         Found::At(to) => {
             let mut taker = book.positions[to];
-            let sum = taker.share.0 + parts;
-            taker.share.0 = sum;
+            let sum = Parts(taker.share.0 + parts.0);
+            taker.share = sum;
             next.positions[from] = giver;
             next.positions[to] = taker;
         }
@@ -64,7 +64,7 @@ fn move_parts(book: Book, from: usize, cedent: u32, assignee: u32, parts: u64) -
             next.positions[from] = giver;
             next.positions[count] = Position {
                 holder: assignee,
-                share: Parts(parts),
+                share: parts,
                 unit_days: 0,
                 received: Cents(0),
             };
@@ -72,7 +72,7 @@ fn move_parts(book: Book, from: usize, cedent: u32, assignee: u32, parts: u64) -
         }
     }
     Transferred {
-        answer: TransferAnswer::Remaining(Parts(kept)),
+        answer: TransferAnswer::Remaining(kept),
         book: next,
     }
 }
@@ -99,7 +99,7 @@ pub fn transfer(book: Book, cedent: u32, assignee: u32, parts: Parts) -> Transfe
             if cedent == assignee {
                 return refused(book, Refusal::Holder);
             }
-            move_parts(book, from, cedent, assignee, parts.0)
+            move_parts(book, from, cedent, assignee, parts)
         }
     }
 }

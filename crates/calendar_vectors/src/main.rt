@@ -4,7 +4,6 @@ use calendar::DateSum;
 use calendar::DayCount;
 use calendar::DaysBetween;
 use libc::STDIN_FILENO;
-use libc::STDOUT_FILENO;
 
 // What the digest is counted modulo.
 const MODULUS: u64 = 4294967291;
@@ -111,27 +110,11 @@ fn put_sum(date: u32, days: u32) {
     }
 }
 
-// A signed number without its sign. One less fits an i64, whatever the number.
-fn size(value: i64) -> u64 {
-    if value < 0 {
-        return (-1 - value) as u64 + 1;
-    }
-    value as u64
-}
-
-// A signed number, and the end of the line.
-fn put_signed(value: i64) {
-    if value < 0 {
-        io::write_all(STDOUT_FILENO, b"-");
-    }
-    cases::put(size(value), b'\n');
-}
-
 fn put_between(from: u32, to: u32) {
     match calendar::days_between(from, to) {
         DaysBetween::Days(days) => {
             cases::put(0, b' ');
-            put_signed(days);
+            cases::put_signed(days, b'\n');
         }
         DaysBetween::NotDates => put_refused(b'\n'),
     }

@@ -12,6 +12,7 @@ use book::Parts;
 use book::PlaceAnswer;
 use book::Position;
 use book::PositionAnswer;
+use book::RateAnswer;
 use book::Refusal;
 use book::SettleAnswer;
 use book::TotalsAnswer;
@@ -231,6 +232,33 @@ fn settle(book: Book, text: &[u8], at: usize) -> Step
     }
 }
 
+fn put_rated(answer: RateAnswer) {
+    match answer {
+        RateAnswer::Revised { outstanding, due } => {
+            cases::put(0, b' ');
+            cases::put_signed(outstanding.0, b' ');
+            cases::put_signed(due.0, b'\n');
+        }
+        RateAnswer::Refused(refusal) => put_refused(refusal, 2),
+    }
+}
+
+fn rate(book: Book, text: &[u8], at: usize) -> Step
+    requires { ⌜ Reached book ⌝ }
+    ensures { λ r. ⌜ Reached (r .book) ⌝ }
+{
+    let date = cases::number_at(text, at);
+    let annual = cases::number_at(text, date.next);
+    let rated = book::rate(book, narrow(date.value), annual.value);
+    let answer = rated.answer;
+    put_rated(answer);
+    let after = rated.book;
+    Step {
+        book: after,
+        next: annual.next,
+    }
+}
+
 // Reads the position of a holder. It answers the position behind the call.
 fn read_holder(book: Book, text: &[u8], at: usize) -> usize
     requires { ⌜ Reached book ⌝ }
@@ -279,7 +307,7 @@ fn read_totals(book: Book)
     }
 }
 
-// The reader of a number from 5 on.
+// The reader of a number: 5 by holder, 6 by place, else the totals.
 fn read_by(book: Book, text: &[u8], kind: u64, at: usize) -> usize
     requires { ⌜ Reached book ⌝ }
 {
@@ -293,7 +321,7 @@ fn read_by(book: Book, text: &[u8], kind: u64, at: usize) -> usize
     }
 }
 
-// One call: 0 is a new book, 1 Open, 2 Advance, 3 Transfer, 4 Settle, and from 5 on a reader.
+// One call: 0 is a new book, 1 Open, 2 Advance, 3 Transfer, 4 Settle, 8 Rate, and any other a reader.
 fn call(book: Book, text: &[u8], at: usize) -> Step
     requires { ⌜ Reached book ⌝ }
     ensures { λ r. ⌜ Reached (r .book) ⌝ }
@@ -312,6 +340,7 @@ fn call(book: Book, text: &[u8], at: usize) -> Step
         2 => advance(book, text, kind.next),
         3 => transfer(book, text, kind.next),
         4 => settle(book, text, kind.next),
+        8 => rate(book, text, kind.next),
         _ => {
             let next = read_by(book, text, number, kind.next);
             Step {

@@ -26,6 +26,9 @@ transfer-requires c κs = search needs
 settle-requires : tie.Need-settle-requires
 settle-requires c κs = search needs
 
+rate-requires : tie.Need-rate-requires
+rate-requires c κs = search needs
+
 read-by-requires : tie.Need-read-by-requires
 read-by-requires c κs = search needs
 
@@ -47,6 +50,9 @@ returns-5 c = search needs
 returns-6 : tie.Need-returns-6
 returns-6 c = search needs
 
+returns-7 : tie.Need-returns-7
+returns-7 c = search needs
+
 pub call-spec : {M : Type 1} → statement M
 call-spec =
     tie.close
@@ -58,10 +64,12 @@ call-spec =
     advance-requires
     transfer-requires
     settle-requires
+    rate-requires
     read-by-requires
     returns
     returns-2
     returns-3
     returns-4
     returns-5
-    returns-6)
+    returns-6
+    returns-7)

@@ -27,7 +27,8 @@ module _ (rates : List RateOrder) (n j day : ℕ) (room : n ≤ length rates) wh
   in-force-end annual x ge le inv = rw (none-remains rates n j room ge le) at inv
 
 abbrev Inv-loop : tie.InvT-loop
-Inv-loop rated day rates annual₀ j₀ annual j = (j ≤ rated) × (inForce annual (drop j (take rated rates)) day ≡ annualOn (take rated rates) day)
+Inv-loop rated day rates annual₀ j₀ annual j =
+    (j ≤ rated) × (inForce annual (drop j (take rated rates)) (day .0) ≡ annualOn (take rated rates) (day .0))
 
 abbrev μ-loop : tie.MeasureT-loop
 μ-loop rated day rates annual₀ j₀ annual j = rated - j
@@ -58,7 +59,7 @@ loop-again c =
     let s = c .before .before .before .before in
     let l = c .before .before .before .loop in (
       omega arith,
-      in-force-turn (s .args .t1) (s .args .rated) (l .j) (s .args .day) (omega (arith, room s)) (l .annual) (c .superseded .result) _ (omega arith)
+      in-force-turn (s .args .t1) (s .args .rated) (l .j) (s .args .day .0) (omega (arith, room s)) (l .annual) (c .superseded .result) _ (omega arith)
           (c .superseded .ensures) (l .inv .1),
     )
 
@@ -66,7 +67,7 @@ returns : tie.Need-returns Inv-loop μ-loop
 returns c =
     let s = c .before .before in
     let l = c .before .loop in
-    in-force-end (s .args .t1) (s .args .rated) (l .j) (s .args .day) (omega (arith, room s)) (l .annual) _ (omega arith) (omega arith) (l .inv .1)
+    in-force-end (s .args .t1) (s .args .rated) (l .j) (s .args .day .0) (omega (arith, room s)) (l .annual) _ (omega arith) (omega arith) (l .inv .1)
 
 pub annual-on-spec : {M : Type 1} → statement M
 annual-on-spec =

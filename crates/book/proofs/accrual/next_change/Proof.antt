@@ -29,10 +29,11 @@ module _ (rates : List RateOrder) (n j day : ℕ) (room : n ≤ length rates) wh
   change-end end x ge le inv = rw (none-remains rates n j room ge le) at inv
 
 abbrev Inv-loop : tie.InvT-loop
-Inv-loop rated day end rates next₀ j₀ next j = (j ≤ rated) × (nextChange (drop j (take rated rates)) day next ≡ nextChange (take rated rates) day end)
+Inv-loop rated day rates next₀ j₀ next j =
+    (j ≤ rated) × (nextChange (drop j (take rated rates)) (day .0) (next .0) ≡ nextChange (take rated rates) (day .0) (next₀ .0))
 
 abbrev μ-loop : tie.MeasureT-loop
-μ-loop rated day end rates next₀ j₀ next j = rated - j
+μ-loop rated day rates next₀ j₀ next j = rated - j
 
 room : (c : tie.Start Inv-loop μ-loop) → length (c .args .t1) ≡ 16
 room c = search needs
@@ -60,7 +61,7 @@ loop-again c =
     let s = c .before .before .before .before in
     let l = c .before .before .before .loop in (
       omega arith,
-      change-turn (s .args .t1) (s .args .rated) (l .j) (s .args .day) (omega (arith, room s)) (l .next) (c .sooner .result) _ (omega arith)
+      change-turn (s .args .t1) (s .args .rated) (l .j) (s .args .day .0) (omega (arith, room s)) (l .next .0) (c .sooner .result .0) _ (omega arith)
           (c .sooner .ensures) (l .inv .1),
     )
 
@@ -68,7 +69,7 @@ returns : tie.Need-returns Inv-loop μ-loop
 returns c =
     let s = c .before .before in
     let l = c .before .loop in
-    change-end (s .args .t1) (s .args .rated) (l .j) (s .args .day) (omega (arith, room s)) (l .next) _ (omega arith) (omega arith) (l .inv .1)
+    change-end (s .args .t1) (s .args .rated) (l .j) (s .args .day .0) (omega (arith, room s)) (l .next .0) _ (omega arith) (omega arith) (l .inv .1)
 
 pub next-change-spec : {M : Type 1} → statement M
 next-change-spec =

@@ -24,7 +24,7 @@ add-interest-paid c = search needs
 
 returns : tie.Need-returns
 unfolding paidOff
-returns c = rw (c .before .before .before .lesser .ensures)
+returns c = rw (c .before .before .before .before .before .before .before .before .lesser .ensures)
 
 pub pay-spec : {M : Type 1} → statement M
 pay-spec =

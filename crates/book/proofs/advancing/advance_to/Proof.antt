@@ -103,41 +103,41 @@ last-settled-requires c κs = search needs
 
 add-if3 : tie.Need-add-if3
 add-if3 c =
-    let start = c .before .before .before .before .before .before in
-    omega (arith, c .last-settled .ensures, last-most start, today-most start, term-most start)
+    let start = c .before .before .before .before .before .before .before in
+    omega (arith, c .before .last-settled .ensures, last-most start, today-most start, term-most start)
 
 add-if3-2 : tie.Need-add-if3-2
 add-if3-2 c =
-    let start = c .before .before .before .before .before .before in
-    let first = c .before .before .before .before .before .count-of in
-    omega (arith, first .ensures, c .last-settled .ensures, first-most start, last-most start, today-most start, term-most start)
+    let start = c .before .before .before .before .before .before .before in
+    let first = c .before .before .before .before .before .before .count-of in
+    omega (arith, first .ensures, c .before .last-settled .ensures, first-most start, last-most start, today-most start, term-most start)
 
 refused-requires-3 : tie.Need-refused-requires-3
 refused-requires-3 c κs = search needs
 
 returns-3 : tie.Need-returns-3
 returns-3 c =
-    let start = c .before .before .before .before .before .before .before .before in
-    let first = c .before .before .before .before .before .before .before .count-of in
+    let start = c .before .before .before .before .before .before .before .before .before in
+    let first = c .before .before .before .before .before .before .before .before .count-of in
     c .refused3 .ensures
     ∙ settlement-pending (start .args .book) (start .args .count) (first .result) (first .ensures) (omega arith) (omega arith)
-    (omega (arith, c .before .before .last-settled .ensures))
+    (omega (arith, c .before .before .before .last-settled .ensures))
 
 sub-days : tie.Need-sub-days
 sub-days c = search needs
 
 pass-days-requires : tie.Need-pass-days-requires
 pass-days-requires c κs =
-    let start = c .before .before .before .before .before .before .before in
-    let last = c .before .last-settled .ensures in
+    let start = c .before .before .before .before .before .before .before .before in
+    let last = c .before .before .last-settled .ensures in
     (start .pre .0, (start .pre .1 .0, (omega (arith, last, last-most start), omega (arith, term-most start))))
 
 returns-4 : tie.Need-returns-4
 returns-4 c =
-    let start = c .before .before .before .before .before .before .before .before in
-    let first = c .before .before .before .before .before .before .before .count-of in
+    let start = c .before .before .before .before .before .before .before .before .before in
+    let first = c .before .before .before .before .before .before .before .before .count-of in
     passes (start .args .book) (start .args .count) (first .result) (first .ensures) (omega arith) (omega arith) (c .pass-days .result)
-    (omega (arith, c .before .before .last-settled .ensures)) (c .pass-days .ensures)
+    (omega (arith, c .before .before .before .last-settled .ensures)) (c .pass-days .ensures)
 
 pub advance-to-spec : {M : Type 1} → statement M
 advance-to-spec =

@@ -5,14 +5,17 @@ use native.Mathlib.Nat.{mul-le-mul}
 use Rattle.book.proofs.advancing.held_for.Statement.{statement}
 use Rattle.book.proofs.advancing.held_for.Tie as tie
 
+cast-gain : tie.Need-cast-gain
+cast-gain c = search needs
+
 mul-gain : tie.Need-mul-gain
-mul-gain c = omega (arith, mul-le-mul (c .before .pre .1) (c .before .pre .2))
+mul-gain c = omega (arith, mul-le-mul (c .before .before .pre .1) (c .before .before .pre .2))
 
 add-next : tie.Need-add-next
-add-next c = omega (arith, mul-le-mul (c .before .before .pre .1) (c .before .before .pre .2))
+add-next c = omega (arith, mul-le-mul (c .before .before .before .pre .1) (c .before .before .before .pre .2))
 
 returns : tie.Need-returns
 returns c = search needs
 
 pub held-for-spec : {M : Type 1} → statement M
-held-for-spec = tie.close (tie.spec mul-gain add-next returns)
+held-for-spec = tie.close (tie.spec cast-gain mul-gain add-next returns)

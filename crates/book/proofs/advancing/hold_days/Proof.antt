@@ -55,13 +55,13 @@ module _ (b : Book) (sound : Sound b) (is-open : b .opened ≡ true) (days : ℕ
         (e ∙ ap (daysHeld days) here ∙ sym (daysHeld-at days (held b) i (fresh 0 0) (omega (arith, length-held b room))))
 
 abbrev Inv-loop : tie.InvT-loop
-Inv-loop days next₀ count i₀ next i = (i ≤ count) × (next ≡ replaced next₀ (later days next₀) i)
+Inv-loop days next₀ count i₀ next i = (i ≤ count) × (next ≡ replaced next₀ (later (days .0) next₀) i)
 
 abbrev μ-loop : tie.MeasureT-loop
 μ-loop days next₀ count i₀ next i = count - i
 
 most : (s : tie.Start Inv-loop μ-loop) → s .args .book .count ≤ 64
-most s = count-most (s .args .book) (s .pre .0) (s .pre .1 .0) (s .args .days)
+most s = count-most (s .args .book) (s .pre .0) (s .pre .1 .0) (s .args .days .0)
 
 loop-holds : tie.Need-loop-holds Inv-loop μ-loop
 loop-holds c = (omega arith, refl)
@@ -76,7 +76,7 @@ held-for-requires : tie.Need-held-for-requires Inv-loop μ-loop
 held-for-requires c κs =
     let start = c .before .before .before in
     let now = c .before .before .loop in
-    let fits = here-most (start .args .book) (start .pre .0) (start .pre .1 .0) (start .args .days) (now .next) (now .i) (now .inv .1) (omega arith) in
+    let fits = here-most (start .args .book) (start .pre .0) (start .pre .1 .0) (start .args .days .0) (now .next) (now .i) (now .inv .1) (omega arith) in
     (fits .0, fits .1, start .pre .1 .1)
 
 mul-held : tie.Need-mul-held Inv-loop μ-loop
@@ -96,7 +96,7 @@ loop-again c =
     let start = c .before .before .before .before in
     let now = c .before .before .before .loop in (
       omega arith,
-      gained (start .args .book) (start .pre .0) (start .pre .1 .0) (start .args .days) (now .next) (now .i) (now .inv .1) (omega arith)
+      gained (start .args .book) (start .pre .0) (start .pre .1 .0) (start .args .days .0) (now .next) (now .i) (now .inv .1) (omega arith)
           (c .held-for .result) (c .held-for .ensures),
     )
 
@@ -105,7 +105,7 @@ returns c =
     let start = c .before .before in
     let now = c .before .loop in
     let b : Book = start .args .book in
-    let days : ℕ = start .args .days in
+    let days : ℕ = start .args .days .0 in
     all-done b (later days b) (room b (start .pre .0) (start .pre .1 .0) days) (as-many b (start .pre .0) (start .pre .1 .0) days)
     (now .next) (now .i) (now .inv .1) (now .inv .0) (omega arith)
 

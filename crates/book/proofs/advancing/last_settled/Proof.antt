@@ -34,17 +34,18 @@ returns c = none-stored (c .before .args .t1) (omega arith)
 sub-last : tie.Need-sub-last
 sub-last c = search needs
 
-mul-result : tie.Need-mul-result
-mul-result c = omega (arith, settled-most (c .before))
+mul-last : tie.Need-mul-last
+mul-last c = omega (arith, settled-most (c .before))
 
-element-copy-out-result : tie.Need-element-copy-out-result
-element-copy-out-result c = omega (arith, settled-most (c .before))
+element-copy-out-last : tie.Need-element-copy-out-last
+element-copy-out-last c = omega (arith, settled-most (c .before))
 
 returns-2 : tie.Need-returns-2
 returns-2 c =
-    let b : Book = c .before .args .t1 in
-    stored-last b (b .settled - 1) (omega (arith, settled-most (c .before), c .before .pre .0 .room-settlements)) (omega arith)
+    let s = c .before .before .before in
+    let b : Book = s .args .t1 in
+    stored-last b (b .settled - 1) (omega (arith, settled-most s, s .pre .0 .room-settlements)) (omega arith)
 
 pub last-settled-spec : {M : Type 1} → statement M
 last-settled-spec =
-    tie.close (tie.spec returns sub-last mul-result element-copy-out-result returns-2)
+    tie.close (tie.spec returns sub-last mul-last element-copy-out-last returns-2)

@@ -36,7 +36,7 @@ add-end c = search needs
 
 elapse-requires : tie.Need-elapse-requires
 elapse-requires c κs =
-    let start = c .before .before in
+    let start = c .before .before .before .before .before in
     let most = start .pre .1 .1 in
     (known start .bounded, ((omega arith, most .1), (known start .rates-most, known start .priced)))
 
@@ -46,8 +46,9 @@ hold-days-requires c κs = search needs
 returns : tie.Need-returns
 unfolding withToday withAccount
 returns c =
-    let start = c .before .before .before .before .before in
-    passed (start .args .book) (omega (arith, known start .positions-most, start .pre .0 .room-positions)) (start .args .days) _ _ (c .before .hold-days .ensures) (c .before .before .elapse .ensures)
+    let start = c .before .before .before .before .before .before .before .before in
+    passed (start .args .book) (omega (arith, known start .positions-most, start .pre .0 .room-positions)) (start .args .days .0) _ _
+    (c .before .hold-days .ensures) (c .before .before .elapse .ensures)
 
 pub pass-days-spec : {M : Type 1} → statement M
 pass-days-spec = tie.close (tie.spec add-end elapse-requires hold-days-requires returns)

@@ -67,12 +67,13 @@ total-of-requires c κs = omega arith
 
 returns-7 : tie.Need-returns-7
 returns-7 c =
-    let p = c .before .before in
+    let t = c .before in
+    let p = t .before .before in
     let d = p .before in
     sym
     (by-sum _ _ (omega arith) (omega arith) (omega arith) (right (d .before .before)) (once d)
-    (sym (p .all-shares .ensures) ∙ not-false (p .all-shares .result) (c .before .if6 .left))
-    ∙ ap (λ n. eqb n 1000000) (sym (c .total-of .ensures)))
+    (sym (p .all-shares .ensures) ∙ not-false (p .all-shares .result) (t .before .if6 .left))
+    ∙ ap (λ n. eqb n 1000000) (sym (t .total-of .ensures)))
 
 pub is-financing-spec : {M : Type 1} → statement M
 is-financing-spec =

@@ -1,4 +1,4 @@
--- The parts are those of the unit-days, so each position is paid its own.
+-- The portions are those of the unit-days, so each position is paid its own.
 use borrow.Author.Needs.{needs}
 use mathlib.Core.Path.{_∙_}
 use Rattle.book.proofs.Paid.{parts-most, paid-by-parts}
@@ -17,7 +17,7 @@ pay-positions-requires c κs =
     let w = c .before .before .weights-of in
     let most =
     parts-most (s .args .book) (s .pre .0) (s .pre .1 .0) (s .pre .1 .1 .1)
-    (s .args .cents) (s .pre .1 .1 .0) (w .result) (w .ensures .1)
+    (s .args .cents .0) (s .pre .1 .1 .0) (w .result) (w .ensures .1)
     in
     (s .pre .0, (s .pre .1 .0, rw (c .before .apportion .ensures) most))
 
@@ -28,7 +28,7 @@ returns c =
     c .pay-positions .ensures
     ∙ rw (c .before .before .apportion .ensures)
     (paid-by-parts (s .args .book) (s .pre .0) (s .pre .1 .0) (s .pre .1 .1 .1)
-    (s .args .cents) (s .pre .1 .1 .0) (w .result) (w .ensures .1))
+    (s .args .cents .0) (s .pre .1 .1 .0) (w .result) (w .ensures .1))
 
 pub pay-out-spec : {M : Type 1} → statement M
 pay-out-spec =

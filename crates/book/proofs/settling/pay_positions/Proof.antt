@@ -18,32 +18,32 @@ use Rattle.book.proofs.settling.pay_positions.Tie as tie
 
 -- the positions paid
 abbrev paid : List ℕ → Book → List Position
-paid parts b = paidFrom (λ k. getD parts k 0) 0 (held b)
+paid portions b = paidFrom (λ k. getD portions k 0) 0 (held b)
 
-module _ (parts : List ℕ) (b : Book) (room : Roomy b) where
-  as-many : length (paid parts b) ≡ b .count
-  as-many = length-paid (λ k. getD parts k 0) 0 (held b) ∙ length-held b room
+module _ (portions : List ℕ) (b : Book) (room : Roomy b) where
+  as-many : length (paid portions b) ≡ b .count
+  as-many = length-paid (λ k. getD portions k 0) 0 (held b) ∙ length-held b room
 
-  module _ (next : Book) (i : ℕ) (so-far : next ≡ replaced b (paid parts b) i) (lt : i < b .count) where
+  module _ (next : Book) (i : ℕ) (so-far : next ≡ replaced b (paid portions b) i) (lt : i < b .count) where
     here : getD (next .positions) i (fresh 0 0) ≡ getD (held b) i (fresh 0 0)
-    here = next-at b (paid parts b) room as-many next i so-far lt
+    here = next-at b (paid portions b) room as-many next i so-far lt
 
     here-most : OpenSound b → getD (next .positions) i (fresh 0 0) .received .0 ≤ 24000000000000
     here-most known = rw here (receipt-most b known i)
 
-    one-paid : (p : Position) → p ≡ paidPosition (getD parts i 0) (getD (next .positions) i (fresh 0 0))
-        → withArray next (set (next .positions) i p) ≡ replaced b (paid parts b) (i + 1)
+    one-paid : (p : Position) → p ≡ paidPosition (getD portions i 0) (getD (next .positions) i (fresh 0 0))
+        → withArray next (set (next .positions) i p) ≡ replaced b (paid portions b) (i + 1)
     one-paid p e =
-        one-more b (paid parts b) room as-many next i so-far p lt
-        (e ∙ ap (paidPosition (getD parts i 0)) here
-        ∙ sym (paid-at (λ k. getD parts k 0) (held b) i (fresh 0 0) (omega (arith, length-held b room))))
+        one-more b (paid portions b) room as-many next i so-far p lt
+        (e ∙ ap (paidPosition (getD portions i 0)) here
+        ∙ sym (paid-at (λ k. getD portions k 0) (held b) i (fresh 0 0) (omega (arith, length-held b room))))
 
 abbrev Inv-loop : tie.InvT-loop
-Inv-loop parts next₀ count i₀ next i =
-    (i ≤ count) × (count ≤ 64) × Roomy next₀ × (next ≡ replaced next₀ (paid parts next₀) i)
+Inv-loop portions next₀ count i₀ next i =
+    (i ≤ count) × (count ≤ 64) × Roomy next₀ × (next ≡ replaced next₀ (paid portions next₀) i)
 
 abbrev μ-loop : tie.MeasureT-loop
-μ-loop parts next₀ count i₀ next i = count - i
+μ-loop portions next₀ count i₀ next i = count - i
 
 loop-holds : tie.Need-loop-holds Inv-loop μ-loop
 loop-holds c =
@@ -56,11 +56,11 @@ mul-position c = omega arith
 element-copy-out-position : tie.Need-element-copy-out-position Inv-loop μ-loop
 element-copy-out-position c = omega arith
 
-mul-paid-position : tie.Need-mul-paid-position Inv-loop μ-loop
-mul-paid-position c = omega arith
+mul-portion : tie.Need-mul-portion Inv-loop μ-loop
+mul-portion c = omega arith
 
-array-read-paid-position : tie.Need-array-read-paid-position Inv-loop μ-loop
-array-read-paid-position c = omega arith
+array-read-portion : tie.Need-array-read-portion Inv-loop μ-loop
+array-read-portion c = omega arith
 
 paid-position-requires : tie.Need-paid-position-requires Inv-loop μ-loop
 paid-position-requires c κs =
@@ -109,8 +109,8 @@ pay-positions-spec =
     loop-holds
     mul-position
     element-copy-out-position
-    mul-paid-position
-    array-read-paid-position
+    mul-portion
+    array-read-portion
     paid-position-requires
     mul-paid
     element-set-from-paid

@@ -53,13 +53,13 @@ refused-requires-4 c κs = search needs
 
 returns-4 : tie.Need-returns-4
 returns-4 c =
-    let o = c .before .before .before .before .before .before .before .before in
+    let o = c .before .before .before .before .before .before .before .before .before in
     let a = o .before .args in
     c .refused4 .ensures ∙ no-day (a .book) (a .cents) (is-open o) (omega arith) (omega arith) (omega arith)
 
 add-if5 : tie.Need-add-if5
 add-if5 c =
-    let o = c .before .before .before .before .before .before .before .before in
+    let o = c .before .before .before .before .before .before .before .before .before in
     omega (arith, is-sound o .when-open (is-open o))
 
 refused-requires-5 : tie.Need-refused-requires-5
@@ -67,18 +67,20 @@ refused-requires-5 c κs = search needs
 
 returns-5 : tie.Need-returns-5
 returns-5 c =
-    let o = c .before .before .before .before .before .before .before .before .before .before .before in
+    let o = c .before .before .before .before .before .before .before .before .before .before .before .before in
+    let within = c .before .before .before .before .before .before .before .before .before .before .if2 .left in
     let a = o .before .args in
     c .refused5 .ensures ∙ overpaid (a .book) (a .cents) (is-open o) (omega arith) (omega arith) (omega arith) (omega arith)
 
 settle-today-requires : tie.Need-settle-today-requires
 settle-today-requires c κs =
-    let o = c .before .before .before .before .before .before .before .before .before .before in
+    let o = c .before .before .before .before .before .before .before .before .before .before .before in
     (is-sound o, (is-open o, ((omega arith, omega arith), (omega arith, omega arith))))
 
 returns-6 : tie.Need-returns-6
 returns-6 c =
-    let o = c .before .before .before .before .before .before .before .before .before .before .before in
+    let o = c .before .before .before .before .before .before .before .before .before .before .before .before in
+    let within = c .before .before .before .before .before .before .before .before .before .before .if2 .left in
     let a = o .before .args in
     c .settle-today .ensures ∙ accepted (a .book) (a .cents) (is-open o) (omega arith) (omega arith) (omega arith) (omega arith)
 

@@ -20,15 +20,21 @@ most : (s : tie.Start) → s .args .t1 .count ≤ 64
 most s = s .pre .0 .when-open (s .pre .1 .0) .positions-most
 
 -- at least one part, and no more than the cedent has
-some : (c : tie.Else2) → c .before .before .before .args .parts ≡ 0 → ⊥
-some c e = omega (arith, c .before .if1 .left)
+abbrev asked : tie.Else2 → tie.Start
+asked c = c .before .before .before .before .before .before .before
 
-enough : (c : tie.Else2) → c .before .before .before .args .parts ≤ getD (c .before .before .before .args .t1 .positions) (c .before .before .before .args .from) noPosition .share .0
+some : (c : tie.Else2) → asked c .args .parts .0 ≡ 0 → ⊥
+some c e = omega (arith, c .before .before .before .if1 .left)
+
+enough : (c : tie.Else2) → asked c .args .parts .0 ≤ getD (asked c .args .t1 .positions) (asked c .args .from) noPosition .share .0
 enough c = omega (arith, c .if2 .left)
 
 -- the assignee is in the book
+abbrev with-assignee : tie.After-to → tie.Else2
+with-assignee c = c .before .before .before .before .before .before
+
 abbrev found : tie.After-to → tie.Start
-found c = c .before .before .before .before .before .before .before .before
+found c = asked (with-assignee c)
 
 hit : (c : tie.After-to)
     → (c .to .given .0 .0 ≡ place (found c .args .assignee) (held (found c .args .t1))) × (c .to .given .0 .0 < found c .args .t1 .count)
@@ -38,8 +44,11 @@ hit c =
     (f .0, omega (arith, f .1, held-count (ceding s)))
 
 -- it is not
+abbrev without : tie.After-enum-told → tie.Else2
+without c = c .before .before .before .before .before .before
+
 abbrev searched : tie.After-enum-told → tie.Start
-searched c = c .before .before .before .before .before .before .before .before
+searched c = asked (without c)
 
 missed : (c : tie.After-enum-told) → present (searched c .args .assignee) (held (searched c .args .t1)) ≡ false
 missed c =
@@ -57,19 +66,21 @@ refused-requires c κs = search needs
 
 returns : tie.Need-returns
 returns c =
-    let s = c .before .before .before in
-    c .refused .ensures ∙ moved-none (ceding s) (s .args .assignee) (s .args .parts) (omega (arith, c .before .if1 .taken))
+    let s = c .before .before .before .before .before in
+    c .refused .ensures ∙ moved-none (ceding s) (s .args .assignee) (s .args .parts .0) (omega (arith, c .before .if1 .taken))
 
 refused-requires-2 : tie.Need-refused-requires-2
 refused-requires-2 c κs = search needs
 
 returns-2 : tie.Need-returns-2
 returns-2 c =
-    let s = c .before .before .before .before in
-    c .refused2 .ensures ∙ moved-over (ceding s) (s .args .assignee) (s .args .parts) (λ e. omega (arith, c .before .before .if1 .left)) (omega (arith, c .before .if2 .taken))
+    let o = c .before .before .before .before in
+    let s = o .before .before .before .before in
+    c .refused2 .ensures
+    ∙ moved-over (ceding s) (s .args .assignee) (s .args .parts .0) (λ e. omega (arith, o .if1 .left)) (omega (arith, c .before .if2 .taken))
 
 find-requires : tie.Need-find-requires
-find-requires c κs = most (c .before .before .before .before .before)
+find-requires c κs = most (asked (c .before .before .before))
 
 enum-known-to : tie.Need-enum-known-to
 enum-known-to c = search needs
@@ -81,13 +92,13 @@ element-copy-out-taker : tie.Need-element-copy-out-taker
 element-copy-out-taker c = omega (arith, hit (c .before) .1, most (found (c .before)))
 
 -- two shares of one book
-add-sum : tie.Need-add-sum
-add-sum c =
-    let f = c .before .before .before in
+add-t32 : tie.Need-add-t32
+add-t32 c =
+    let f = c .before .before .before .before in
     let s = found f in
     let has = share-most (ceding s) (s .args .from) (s .pre .1 .1 .0 .1) in
     let takes = share-most (ceding s) (f .to .given .0 .0) (hit f .1) in
-    omega (arith, has, takes, enough (f .before .before .before .before .before))
+    omega (arith, has, takes, enough (with-assignee f))
 
 mul-giver-2 : tie.Need-mul-giver-2
 mul-giver-2 c = omega (arith, most (found (c .before .before .before .before)))
@@ -111,9 +122,9 @@ returns-3 : tie.Need-returns-3
 returns-3 c =
     let m = c .before .before in
     let s = searched m in
-    let over = m .before .before .before .before .before in
+    let o = without m in
     c .refused3 .ensures
-    ∙ moved-full (ceding s) (s .args .assignee) (s .args .parts) (some over) (enough over) (missed m) (omega (arith, c .before .if3 .taken))
+    ∙ moved-full (ceding s) (s .args .assignee) (s .args .parts .0) (some o) (enough o) (missed m) (omega (arith, c .before .if3 .taken))
 
 mul-giver-3 : tie.Need-mul-giver-3
 mul-giver-3 c = search needs
@@ -121,8 +132,8 @@ mul-giver-3 c = search needs
 element-set-from-giver-2 : tie.Need-element-set-from-giver-2
 element-set-from-giver-2 c = search needs
 
-mul-t38 : tie.Need-mul-t38
-mul-t38 c = search needs
+mul-t40 : tie.Need-mul-t40
+mul-t40 c = search needs
 
 element-set-from-next : tie.Need-element-set-from-next
 element-set-from-next c = search needs
@@ -134,16 +145,16 @@ returns-4 : tie.Need-returns-4
 returns-4 c =
     let f = c .before .before .before .before in
     let s = found f in
-    let over = f .before .before .before .before .before in
-    moved-between (ceding s) (s .args .assignee) (s .args .parts) (some over) (enough over)
+    let o = with-assignee f in
+    moved-between (ceding s) (s .args .assignee) (s .args .parts .0) (some o) (enough o)
     (f .to .given .0 .0) (s .pre .1 .1 .1) (hit f .0) (hit f .1)
 
 returns-5 : tie.Need-returns-5
 returns-5 c =
     let m = c .before in
     let s = searched m in
-    let over = m .before .before .before .before .before in
-    moved-last (ceding s) (s .args .assignee) (s .args .parts) (some over) (enough over) (missed m) (omega (arith, c .if3 .left))
+    let o = without m in
+    moved-last (ceding s) (s .args .assignee) (s .args .parts .0) (some o) (enough o) (missed m) (omega (arith, c .if3 .left))
 
 pub move-parts-spec : {M : Type 1} → statement M
 move-parts-spec =
@@ -159,7 +170,7 @@ move-parts-spec =
     enum-known-to
     mul-taker
     element-copy-out-taker
-    add-sum
+    add-t32
     mul-giver-2
     element-set-from-giver
     mul-taker-2
@@ -169,7 +180,7 @@ move-parts-spec =
     returns-3
     mul-giver-3
     element-set-from-giver-2
-    mul-t38
+    mul-t40
     element-set-from-next
     add-next
     returns-4

@@ -1,0 +1,156 @@
+-- `replay` meets its contract. The loop's invariant: what is left to replay, from the account and the day at hand, is what was asked at the
+-- start.
+use Prim.Native.Nat.{_+_, _-_, _≤_, _<_}
+use native.Mathlib.Omega.{arith}
+use mathlib.Core.Path.{_≡_, refl, _∙_}
+use borrow.Author.Needs.{needs}
+use lib.ListN.{length, take, drop, getD}
+use Rattle.book.specs.Book.{opening, noSettlement}
+use Rattle.book.specs.Computation.{Bounded, Timely, replayed}
+use Rattle.book.proofs.Bounds.{bounded-opening, bounded-more, bounded-between, bounded-paid}
+use Rattle.book.proofs.Replays.{replayFrom, timely-most, replay-whole, timely-turn, replay-over, replay-turn, replay-end}
+use Rattle.book.proofs.rating.replay.Statement.{statement}
+use Rattle.book.proofs.rating.replay.Tie as tie
+
+abbrev Inv-loop : tie.InvT-loop
+Inv-loop rates rated settled today settlements account₀ from₀ i₀ account from i =
+    (i ≤ settled) × Bounded (from .0) account × Timely (from .0) (drop i (take settled settlements)) (today .0)
+    × (replayFrom (take rated rates) account (from .0) (drop i (take settled settlements)) (today .0)
+    ≡ replayFrom (take rated rates) account₀ 0 (take settled settlements) (today .0))
+
+abbrev μ-loop : tie.MeasureT-loop
+μ-loop rates rated settled today settlements account₀ from₀ i₀ account from i = settled - i
+
+loop-holds : tie.Need-loop-holds Inv-loop μ-loop
+unfolding opening
+loop-holds c = (omega arith, bounded-opening _ (c .pre .0 .0), c .pre .1 .1 .1, refl)
+
+-- the array has 240 elements, of which so many are settlements
+room : (c : tie.Start Inv-loop μ-loop) → c .args .settled ≤ length (c .args .t4)
+room c = let n : length (c .args .t4) ≡ 240 = search needs in omega (arith, c .pre .1 .1 .0)
+
+-- what is asked at the start is what the contract says
+asked : (s : tie.Start Inv-loop μ-loop)
+    → replayFrom (take (s .args .rated) (s .args .rates)) (opening (s .args .recognised .0)) 0 (take (s .args .settled) (s .args .t4)) (s .args .today .0)
+    ≡ replayed (s .args .recognised .0) (take (s .args .rated) (s .args .rates)) (take (s .args .settled) (s .args .t4)) (s .args .today .0)
+asked s =
+    replay-whole (s .args .recognised .0) (take (s .args .rated) (s .args .rates)) (take (s .args .settled) (s .args .t4)) (s .args .today .0)
+    (s .pre .1 .1 .1)
+
+-- the settlement at hand, its day after the last and the others after it
+turn : (c : tie.In-loop Inv-loop μ-loop)
+    → (c .before .loop .from .0 < getD (c .before .before .args .t4) (c .before .loop .i) noSettlement .day .0)
+    × Timely (getD (c .before .before .args .t4) (c .before .loop .i) noSettlement .day .0)
+    (drop (c .before .loop .i + 1) (take (c .before .before .args .settled) (c .before .before .args .t4))) (c .before .before .args .today .0)
+turn c =
+    let s = c .before .before in
+    let l = c .before .loop in
+    timely-turn (take (s .args .rated) (s .args .rates)) (s .args .t4) (s .args .settled) (l .i) (l .from .0) (s .args .today .0) (room s)
+    (c .loop-test .taken) (l .inv .2)
+
+day-most : (c : tie.In-loop Inv-loop μ-loop) → getD (c .before .before .args .t4) (c .before .loop .i) noSettlement .day .0 ≤ 6000
+day-most c =
+    let s = c .before .before in
+    omega (
+      arith,
+      timely-most _ (drop (c .before .loop .i + 1) (take (s .args .settled) (s .args .t4))) (s .args .today .0) (turn c .1),
+      s .pre .0 .1,
+    )
+
+mul-settlement : tie.Need-mul-settlement Inv-loop μ-loop
+mul-settlement c = omega arith
+
+array-copy-out-settlement : tie.Need-array-copy-out-settlement Inv-loop μ-loop
+array-copy-out-settlement c = omega arith
+
+elapse-requires : tie.Need-elapse-requires Inv-loop μ-loop
+elapse-requires c κs =
+    let g = c .before .before .before in
+    let s = g .before .before in
+    (g .before .loop .inv .1, ((omega (arith, turn g .0), day-most g), s .pre .1 .0))
+
+-- the account as the settlement's day begins
+bounded : (c : tie.After-elapse Inv-loop μ-loop)
+    → Bounded (getD (c .before .before .before .before .before .before .args .t4) (c .before .before .before .before .before .loop .i) noSettlement .day .0)
+    (c .elapse .result)
+bounded c =
+    let g = c .before .before .before .before in
+    let s = g .before .before in
+    let l = g .before .loop in
+    rw (c .elapse .ensures)
+    (bounded-between (take (s .args .rated) (s .args .rates)) (l .from .0) _ (l .account) (s .pre .1 .0 .1) (omega (arith, turn g .0)) (l .inv .1))
+
+bounded-6000 : (c : tie.After-elapse Inv-loop μ-loop) → Bounded 6000 (c .elapse .result)
+bounded-6000 c = bounded-more _ 6000 (c .elapse .result) (day-most (c .before .before .before .before)) (bounded c)
+
+add-if1 : tie.Need-add-if1 Inv-loop μ-loop
+add-if1 c = let h = bounded-6000 (c .before) in omega (arith, h .principal, h .interest)
+
+returns : tie.Need-returns Inv-loop μ-loop
+unfolding opening
+returns c =
+    let h = c .before .before .before in
+    let g = h .before .before .before .before in
+    let s = g .before .before in
+    let l = g .before .loop in
+    replay-over (take (s .args .rated) (s .args .rates)) (s .args .t4) (s .args .settled) (l .i) (l .from .0) (s .args .today .0) (room s)
+    (l .account) (h .elapse .result) _ (h .elapse .ensures) (g .loop-test .taken) (l .inv .3) (omega arith)
+    ∙ asked s
+
+pay-requires : tie.Need-pay-requires Inv-loop μ-loop
+pay-requires c κs = (bounded-6000 (c .before .before .before), omega arith)
+
+add-i : tie.Need-add-i Inv-loop μ-loop
+add-i c = omega arith
+
+loop-less : tie.Need-loop-less Inv-loop μ-loop
+loop-less c = omega arith
+
+loop-again : tie.Need-loop-again Inv-loop μ-loop
+loop-again c =
+    let h = c .before .before .before .before in
+    let g = h .before .before .before .before in
+    let s = g .before .before in
+    let l = g .before .loop in (
+      omega arith,
+      rw (c .pay .ensures) (bounded-paid _ _ (h .elapse .result) (omega arith) (bounded h)),
+      turn g .1,
+      replay-turn (take (s .args .rated) (s .args .rates)) (s .args .t4) (s .args .settled) (l .i) (l .from .0) (s .args .today .0) (room s)
+          (l .account) (h .elapse .result) _ (h .elapse .ensures) (g .loop-test .taken) (l .inv .3) (c .pay .result) (omega arith)
+          (c .pay .ensures),
+    )
+
+elapse-requires-2 : tie.Need-elapse-requires-2 Inv-loop μ-loop
+elapse-requires-2 c κs =
+    let s = c .before .before in
+    let l = c .before .loop in
+    let until = timely-most (l .from .0) (drop (l .i) (take (s .args .settled) (s .args .t4))) (s .args .today .0) (l .inv .2) in
+    (l .inv .1, ((until, s .pre .0 .1), s .pre .1 .0))
+
+returns-2 : tie.Need-returns-2 Inv-loop μ-loop
+unfolding opening
+returns-2 c =
+    let s = c .before .before .before in
+    let l = c .before .before .loop in
+    replay-end (take (s .args .rated) (s .args .rates)) (s .args .t4) (s .args .settled) (l .i) (l .from .0) (s .args .today .0) (room s)
+    (l .account) (c .elapse2 .result) _ (c .elapse2 .ensures) (omega arith) (l .inv .0) (l .inv .3)
+    ∙ asked s
+
+pub replay-spec : {M : Type 1} → statement M
+replay-spec =
+    tie.close
+    (tie.spec
+    Inv-loop
+    μ-loop
+    loop-holds
+    mul-settlement
+    array-copy-out-settlement
+    elapse-requires
+    add-if1
+    returns
+    pay-requires
+    add-i
+    loop-less
+    loop-again
+    elapse-requires-2
+    returns-2)

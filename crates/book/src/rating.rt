@@ -1,0 +1,185 @@
+// Rate (document 01): the account becomes what it would be had the new rates held from the start.
+ghost use mathlib.Core.Path.{_≡_};
+ghost use mathlib.Core.Bool.{true};
+ghost use Prim.Native.Nat.{_≤_, _<_};
+ghost use lib.ListN.{length, take};
+ghost use Rattle.book.specs.Book.{ratesOf};
+ghost use Rattle.book.specs.Computation.{replayed, Bounded, Priced, Timely};
+ghost use Rattle.book.specs.Outcome.{answered, refuse, noChanges, rateCase, rateStated};
+ghost use Rattle.book.specs.Rate.{startingBefore, changesOf, revised, ratedFrom, rated};
+ghost use Rattle.book.specs.Reached.{Reached};
+ghost use Rattle.book.specs.Sound.{Sound};
+use crate::Account;
+use crate::Book;
+use crate::Cents;
+use crate::CentsChange;
+use crate::Day;
+use crate::RateAnswer;
+use crate::RateOrder;
+use crate::Rated;
+use crate::Refusal;
+use crate::Settlement;
+use crate::accrual::elapse;
+use crate::accrual::pay;
+use crate::advancing::count_of;
+use calendar::DayCount;
+
+// The account that rates and settlements lead to; or a settlement is over due plus outstanding.
+enum Replayed {
+    Standing(Account),
+    Overpaid,
+}
+
+fn refused(book: Book, refusal: Refusal) -> Rated
+    ensures { λ r. ⌜ rateStated r ≡ refuse noChanges book refusal ⌝ }
+{
+    Rated {
+        answer: RateAnswer::Refused(refusal),
+        book: book,
+    }
+}
+
+// How many stored rates start before a day.
+fn count_before(rates: [RateOrder; Book::RATES], rated: usize, day: Day) -> usize
+    requires { ⌜ rated ≤ 16 ⌝ }
+    ensures { λ r. ⌜ r ≡ length (startingBefore (day .0) (take rated rates)) ⌝ }
+{
+    let mut count: usize = 0;
+    let mut i: usize = 0;
+    while i < rated {
+        if rates[i].first.0 < day.0 {
+            count += 1;
+        }
+        i += 1;
+    }
+    count
+}
+
+// From the opening to today, settlement by settlement: the cost follows settlements and rates, not days.
+fn replay(
+    recognised: Cents,
+    rates: [RateOrder; Book::RATES],
+    rated: usize,
+    settlements: [Settlement; Book::SETTLEMENTS],
+    settled: usize,
+    today: Day,
+) -> Replayed
+    requires { ⌜ (recognised .0 ≤ 1000000000000) × (today .0 ≤ 6000) ⌝ }
+    requires { ⌜ (rated ≤ 16) × Priced (take rated rates) ⌝ }
+    requires { ⌜ (settled ≤ 240) × Timely 0 (take settled settlements) (today .0) ⌝ }
+    ensures { λ r. ⌜ r ≡ replayed (recognised .0) (take rated rates) (take settled settlements) (today .0) ⌝ }
+{
+    let mut account = Account {
+        outstanding: recognised,
+        due: Cents(0),
+        fraction: 0,
+        principal_paid: Cents(0),
+        interest_paid: Cents(0),
+    };
+    let mut from = Day(0);
+    let mut i: usize = 0;
+    while i < settled {
+        let settlement = settlements[i];
+        let day = settlement.day;
+        let cents = settlement.cents;
+        let before = elapse(account, rates, rated, from, day);
+        if before.due.0 + before.outstanding.0 < cents.0 {
+            return Replayed::Overpaid;
+        }
+        account = pay(before, cents);
+        from = day;
+        i += 1;
+    }
+    Replayed::Standing(elapse(account, rates, rated, from, today))
+}
+
+// What is answered: after minus before.
+fn changes(before: Account, after: Account) -> RateAnswer
+    requires { ⌜ Bounded 6000 before ⌝ }
+    requires { ⌜ Bounded 6000 after ⌝ }
+    ensures { λ r. ⌜ rateCase r ≡ answered (changesOf before after) ⌝ }
+{
+    let outstanding = after.outstanding.0 as i64 - before.outstanding.0 as i64;
+    let due = after.due.0 as i64 - before.due.0 as i64;
+    RateAnswer::Revised {
+        outstanding: CentsChange(outstanding),
+        due: CentsChange(due),
+    }
+}
+
+// An order that meets every condition before 14.
+fn revise(book: Book, order: RateOrder) -> Rated
+    requires { ⌜ Sound book ⌝ }
+    requires { ⌜ book .opened ≡ true ⌝ }
+    requires { ⌜ (order .annual ≤ 4000) × (length (startingBefore (order .first .0) (ratesOf book)) < 16) ⌝ }
+    ensures { λ r. ⌜ rateStated r ≡ revised book order ⌝ }
+{
+    // The order replaces the stored rates from its first day on.
+    let mut rates = book.rates;
+    let first = order.first;
+    let at = count_before(rates, book.rated, first);
+    rates[at] = order;
+    let rated = at + 1;
+    let recognised = book.recognised;
+    let settlements = book.settlements;
+    let today = book.today;
+    match replay(recognised, rates, rated, settlements, book.settled, today) {
+        Replayed::Standing(account) => {
+            let before = book.account;
+            let mut next = book;
+            next.account = account;
+            next.rated = rated;
+            next.rates = rates;
+            Rated {
+                answer: changes(before, account),
+                book: next,
+            }
+        }
+        Replayed::Overpaid => refused(book, Refusal::Overpaid),
+    }
+}
+
+// From the date of a day count.
+fn rate_from(book: Book, count: u32, annual: u64) -> Rated
+    requires { ⌜ Sound book ⌝ }
+    requires { ⌜ book .opened ≡ true ⌝ }
+    requires { ⌜ annual ≤ 4000 ⌝ }
+    ensures { λ r. ⌜ rateStated r ≡ ratedFrom book count annual ⌝ }
+{
+    let first = count_of(book.first);
+    if count < first {
+        return refused(book, Refusal::Day);
+    }
+    if first + book.today.0 < count {
+        return refused(book, Refusal::Day);
+    }
+    let day = Day(count - first);
+    let rates = book.rates;
+    if Book::RATES <= count_before(rates, book.rated, day) {
+        return refused(book, Refusal::BookFull);
+    }
+    revise(
+        book,
+        RateOrder {
+            first: day,
+            annual: annual,
+        },
+    )
+}
+
+pub fn rate(book: Book, date: u32, annual: u64) -> Rated
+    requires { ⌜ Reached book ⌝ }
+    ensures { λ r. ⌜ rateStated r ≡ rated book date annual ⌝ }
+{
+    let opened = book.opened;
+    if !opened {
+        return refused(book, Refusal::Unopened);
+    }
+    let DayCount::Day(count) = calendar::day_count(date) else {
+        return refused(book, Refusal::Date);
+    };
+    if rates::GREATEST < annual {
+        return refused(book, Refusal::Rate);
+    }
+    rate_from(book, count, annual)
+}

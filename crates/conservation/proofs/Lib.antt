@@ -1,0 +1,19 @@
+-- The tally against the book, call by call, and over lists.
+pub mod TallySums
+pub mod AccountTally
+pub mod SameTerms
+pub mod MoneyConserved
+pub mod Members
+pub mod ByHolder
+pub mod TallyDays
+pub mod Newcomers
+pub mod Agreement
+pub mod OpenAgrees
+pub mod AdvanceAgrees
+pub mod TransferAgrees
+pub mod SettleAgrees
+pub mod RateAgrees
+pub mod CallAgrees
+pub mod Conserved
+pub mod SteadyDays
+pub mod Examples
