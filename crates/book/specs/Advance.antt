@@ -31,6 +31,7 @@ daysPassed (suc n) b = dayPassed (daysPassed n b)
 abbrev pub countOfDay : Book → ℕ → ℕ
 countOfDay b day = dayCount (b .first) + day
 
+-- to the date of a day count
 unfoldable pub advancedTo : Book → ℕ → Outcome Day
 advancedTo b count =
     -- 8: "not after today, or after the term's end"

@@ -4,16 +4,11 @@ use mathlib.Core.Bool.{Bool}
 use mathlib.Core.List.{List, [], _∷_}
 use lib.Dec.{eqb}
 use Rattle.book.specs.declared.Book.{Book}
+use Rattle.book.specs.Call.{Call, Advance, Rate, Transfer, Settle}
 use Rattle.book.specs.Advance.{advanced}
 use Rattle.book.specs.Rate.{rated}
 use Rattle.book.specs.Transfer.{transferred}
 use Rattle.book.specs.Settle.{settled}
-
-pub data Call : Type 0 where
-  Advance : (date : ℕ) → Call
-  Rate : (date annual : ℕ) → Call
-  Transfer : (cedent assignee parts : ℕ) → Call
-  Settle : (cents : ℕ) → Call
 
 -- the book that a call gives back, and the number that it answers
 abbrev pub bookAfter : Book → Call → Book

@@ -1,4 +1,4 @@
--- The definitions that the contracts cite. `Computation` and `Sound` are cited by private ones alone.
+-- The definitions that the contracts cite. `Computation` and `Sound` are cited by private ones alone, `Calls` by the theorem over lists.
 pub mod Book
 pub mod Outcome
 pub mod Accrual
@@ -11,6 +11,7 @@ pub mod Settle
 pub mod Read
 pub mod Standing
 pub mod Rate
+pub mod Call
 pub mod Calls
 pub mod Reached
 pub mod Computation

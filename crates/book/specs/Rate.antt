@@ -24,7 +24,7 @@ startingBefore day (o ∷ os) = cond (ltb (o .first .0) day) (o ∷ startingBefo
 abbrev pub withRate : RateOrder → List RateOrder → List RateOrder
 withRate o orders = startingBefore (o .first .0) orders ++ (o ∷ [])
 
--- the book with other rates in use, and another account; the array's places behind the rates stay as they were
+-- "Positions don't change.": the book with other rates in use, and another account; the array's places behind the rates stay as they were
 unfoldable pub withRates : Book → List RateOrder → Account → Book
 withRates b orders a =
     record {
@@ -50,7 +50,8 @@ changesOf before after =
       due = record { 0 = pos (after .due .0) -ℤ pos (before .due .0) };
     }
 
--- an order that meets the conditions before 14
+-- an order that meets the conditions before 14. "Outstanding, interest due, fraction and both paid totals become what they'd be had these rates
+-- held from the start, with the same settlements on the same days."
 unfoldable pub revised : Book → RateOrder → Outcome Changes
 revised b o =
     -- 14: "some past settlement would be so under the new rates"
@@ -59,6 +60,7 @@ revised b o =
     (changesOf (b .account) (accountAt (b .recognised .0) (withRate o (ratesOf b)) (settlementsOf b) (b .today .0)))
     (withRates b (withRate o (ratesOf b)) (accountAt (b .recognised .0) (withRate o (ratesOf b)) (settlementsOf b) (b .today .0))))
 
+-- from the date of a day count
 unfoldable pub ratedFrom : Book → ℕ → ℕ → Outcome Changes
 ratedFrom b count annual =
     -- 8: "before day 0 or after today"

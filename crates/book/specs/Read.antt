@@ -1,4 +1,4 @@
--- The readers (document 01): "Answer a position (by holder: share, unit-days, received) or the totals (the B fields below) changes nothing;
+-- The readers (document 01): "Reading a position (by holder: share, unit-days, received) or the totals (the B fields below) changes nothing;
 -- an unknown holder is refused with 10."
 use Prim.Native.Nat.{ℕ}
 use mathlib.Core.Bool.{cond, not, _||_}

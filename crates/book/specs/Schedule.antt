@@ -13,6 +13,7 @@ unfoldable pub inForce : ℕ → List RateOrder → ℕ → ℕ
 inForce annual [] day = annual
 inForce annual (o ∷ os) day = inForce (cond (leb (o .first .0) day) (o .annual) annual) os day
 
+-- the 0 is never met: a rate from day 0 is always stored
 abbrev pub annualOn : List RateOrder → ℕ → ℕ
 annualOn orders day = inForce 0 orders day
 

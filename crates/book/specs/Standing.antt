@@ -17,6 +17,7 @@ unfoldable pub settledOn : List Settlement → ℕ → Option ℕ
 settledOn [] day = none
 settledOn (s ∷ ss) day = cond (eqb (s .day .0) day) (some (s .cents .0)) (settledOn ss day)
 
+-- the account with it made
 abbrev pub payingOff : Option ℕ → Account → Account
 payingOff none a = a
 payingOff (some m) a = paidOff m a

@@ -12,7 +12,7 @@ use Rattle.book.specs.Accrual.{accruedDay, paidOff}
 use Rattle.book.specs.Book.{opening}
 use Rattle.book.specs.Schedule.{dailyOn}
 use Rattle.book.specs.Standing.{settledOn, payingOff, dayBegins, accountAt}
-use Rattle.conservation.specs.Tally.{Sums, nothing, dueOf, outstandingOf, paying, elapsing, before, through}
+use Rattle.conservation.specs.Tally.{Sums, noSums, dueOf, outstandingOf, paying, elapsing, before, through}
 
 pub record SameFigures (cents : ℕ) (a : Account) (s : Sums) : Type 0 where
   pub due : a .due .0 ≡ dueOf s
@@ -22,7 +22,7 @@ pub record SameFigures (cents : ℕ) (a : Account) (s : Sums) : Type 0 where
   pub accrued : 10000000000 * (a .«interest_paid» .0 + a .due .0) + a .fraction ≡ s .accrued
   pub below : a .fraction < 10000000000
 
-opening-agrees : (cents : ℕ) → SameFigures cents (opening cents) nothing
+opening-agrees : (cents : ℕ) → SameFigures cents (opening cents) noSums
 unfolding opening
 opening-agrees cents =
     record {

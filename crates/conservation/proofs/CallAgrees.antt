@@ -8,7 +8,8 @@ use lib.Dec.{eqb}
 use Rattle.book.specs.declared.Book.{Book}
 use Rattle.book.specs.declared.Refusal.{Refusal}
 use Rattle.book.specs.Book.{held}
-use Rattle.book.specs.Calls.{Call, Advance, Rate, Transfer, Settle, bookAfter, accepts}
+use Rattle.book.specs.Call.{Call, Advance, Rate, Transfer, Settle}
+use Rattle.book.specs.Calls.{bookAfter, accepts}
 use Rattle.conservation.specs.Conservation.{centsOf}
 use Rattle.book.specs.Outcome.{Outcome, refusalNumber}
 use Rattle.book.specs.Positions.{receipts, total}

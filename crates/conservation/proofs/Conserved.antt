@@ -8,7 +8,8 @@ use lib.Dec.{eqb}
 use Rattle.book.specs.declared.Book.{Book}
 use Rattle.book.specs.declared.Refusal.{Refusal}
 use Rattle.book.specs.Book.{held}
-use Rattle.book.specs.Calls.{Call, Advance, Rate, Transfer, Settle, bookAfter, accepts, run}
+use Rattle.book.specs.Call.{Call, Advance, Rate, Transfer, Settle}
+use Rattle.book.specs.Calls.{bookAfter, accepts, run}
 use Rattle.book.specs.Outcome.{Outcome, refusalNumber}
 use Rattle.book.specs.Positions.{receipts, total}
 use Rattle.book.specs.Reached.{Reached, empty, opens, advances, rates, transfers, settles}
@@ -17,8 +18,8 @@ use Rattle.book.proofs.Accepted.{orderOf, accountAfter, advance-cases, rate-cas
 use Rattle.book.proofs.Kept.{sound}
 use Rattle.book.proofs.StandingKept.{standing}
 use Rattle.book.proofs.Steps.{advance-step, transfer-step, settle-step}
-use Rattle.conservation.specs.Conservation.{openingOf, heard, settledCents, Conserved, Conservation}
-use Rattle.conservation.specs.Tally.{Opening, Tally, start, dayOfDate, entered, hears}
+use Rattle.conservation.specs.Conservation.{openingOf, feedOf, acceptedCents, Conserved, Conservation}
+use Rattle.conservation.specs.Tally.{Opening, Tally, start, dayOfDate, entered, fedWith}
 use Rattle.conservation.proofs.Agreement.{Agrees, holders-same, shares-same, shares-whole, receipts-same}
 use Rattle.conservation.proofs.CallAgrees.{not-accepted, agrees-after, receipts-after}
 use Rattle.conservation.proofs.MoneyConserved.{money-conserved}
@@ -67,14 +68,14 @@ module _ (o : Opening) where
         agrees = agrees-after o b (sound b (j .reached)) (j .terms .first) t (j .agrees) k;
       }
 
-  joint-run : (ks : List Call) (b : Book) (t : Tally) → Joint b t → Joint (run b ks) (hears o t (heard b ks))
-  unfolding run hears heard
+  joint-run : (ks : List Call) (b : Book) (t : Tally) → Joint b t → Joint (run b ks) (fedWith o t (feedOf b ks))
+  unfolding run fedWith feedOf
   joint-run [] b t j = j
   joint-run (k ∷ ks) b t j = joint-run ks (bookAfter b k) _ (joint-after b t j k)
 
   receipts-run : (ks : List Call) (b : Book) (t : Tally) → Joint b t
-      → total (receipts (held (run b ks))) ≡ total (receipts (held b)) + settledCents (heard b ks)
-  unfolding run heard settledCents
+      → total (receipts (held (run b ks))) ≡ total (receipts (held b)) + acceptedCents (feedOf b ks)
+  unfolding run feedOf acceptedCents
   receipts-run [] b t j = omega arith
   receipts-run (k ∷ ks) b t j =
       omega (arith, receipts-after b (sound b (j .reached)) k, receipts-run ks (bookAfter b k) _ (joint-after b t j k))
@@ -91,7 +92,7 @@ pub conserved : Conservation
 conserved o ks number =
     let first = openingOf o .book in
     let b = run first ks in
-    let t = hears o (start o) (heard first ks) in
+    let t = fedWith o (start o) (feedOf first ks) in
     let opened = joint-opened o number in
     let joint = joint-run o ks first (start o) opened in
     let agrees = joint .agrees in

@@ -11,7 +11,8 @@ use Rattle.book.specs.declared.Refusal.the-variants as refusal
 use Rattle.book.specs.Accrual.{accruedDay, paidOff}
 use Rattle.book.specs.Advance.{dayPassed, daysPassed, advancedTo, advanced}
 use Rattle.book.specs.Book.{held, opening, emptyBook, withHeld, withAccount, withToday, withSettlement}
-use Rattle.book.specs.Calls.{Advance, Transfer, Settle, bookAfter, run}
+use Rattle.book.specs.Call.{Advance, Transfer, Settle}
+use Rattle.book.specs.Calls.{bookAfter, run}
 use Rattle.book.specs.Outcome.{noChanges, answered, declined}
 use Rattle.book.specs.Open.{isFinancing, newBook, opened}
 use Rattle.book.specs.Rate.{startingBefore, withRates, revised, ratedFrom, rated}

@@ -5,23 +5,22 @@ use mathlib.Core.Bool.{cond}
 use mathlib.Core.List.{List, [], _∷_, map}
 use Rattle.apportionment.specs.Sum.{sumBelow}
 use Rattle.book.specs.declared.Book.{Book}
-use Rattle.book.specs.declared.Day.{Day}
-use Rattle.book.specs.declared.Cents.{Cents}
 use Rattle.book.specs.Book.{emptyBook, held}
-use Rattle.book.specs.Calls.{Call, Advance, Rate, Transfer, Settle, bookAfter, accepts, run}
+use Rattle.book.specs.Call.{Call, Advance, Rate, Transfer, Settle}
+use Rattle.book.specs.Calls.{bookAfter, accepts, run}
 use Rattle.book.specs.Open.{opened}
 use Rattle.book.specs.Outcome.{Outcome}
 use Rattle.book.specs.Positions.{holders, shares, receipts, total}
-use Rattle.conservation.specs.Tally.{Opening, Heard, Tally, start, hears, sumsToday, dueOf, outstandingOf, outstandingOn, dailyOfDay, shareToday, received}
+use Rattle.conservation.specs.Tally.{Opening, Fed, Tally, start, fedWith, sumsToday, dueOf, outstandingOf, outstandingOn, dailyOfDay, shareToday, received}
 
 -- what Open gives back on the empty book
 abbrev pub openingOf : Opening → Outcome (Unit {0})
 openingOf o = opened emptyBook (o .first) (record { 0 = o .term }) (o .annual) (record { 0 = o .cents }) (o .holders) (o .shares)
 
--- what the tally hears of a list of calls: each call's arguments, and whether it was accepted
-unfoldable pub heard : Book → List Call → List Heard
-heard b [] = []
-heard b (k ∷ ks) = record { call = k; accepted = accepts b k } ∷ heard (bookAfter b k) ks
+-- what the tally is fed of a list of calls: each call's arguments, and whether it was accepted
+unfoldable pub feedOf : Book → List Call → List Fed
+feedOf b [] = []
+feedOf b (k ∷ ks) = record { call = k; accepted = accepts b k } ∷ feedOf (bookAfter b k) ks
 
 -- "the cents of all accepted settlements"
 abbrev pub centsOf : Call → ℕ
@@ -30,11 +29,11 @@ centsOf (Rate date annual) = 0
 centsOf (Transfer c a n) = 0
 centsOf (Settle m) = m
 
-unfoldable pub settledCents : List Heard → ℕ
-settledCents [] = 0
-settledCents (x ∷ xs) = cond (x .accepted) (centsOf (x .call)) 0 + settledCents xs
+unfoldable pub acceptedCents : List Fed → ℕ
+acceptedCents [] = 0
+acceptedCents (x ∷ xs) = cond (x .accepted) (centsOf (x .call)) 0 + acceptedCents xs
 
-pub record Conserved (o : Opening) (b : Book) (t : Tally) (xs : List Heard) : Type 0 where
+pub record Conserved (o : Opening) (b : Book) (t : Tally) (xs : List Fed) : Type 0 where
   -- "Shares total 1,000,000, each holder's being today's in the paper's tally."
   pub shares-whole : total (shares (held b)) ≡ 1000000
   pub holders-same : holders (held b) ≡ t .holders
@@ -46,7 +45,7 @@ pub record Conserved (o : Opening) (b : Book) (t : Tally) (xs : List Heard) : Ty
   pub interest-whole : 10000000000 * (b .account .«interest_paid» .0 + b .account .due .0) + b .account .fraction
       ≡ sumBelow (t .today) (λ day. outstandingOn o t day * dailyOfDay t day)
   -- "Receipts total the cents of all accepted settlements."
-  pub receipts-whole : total (receipts (held b)) ≡ settledCents xs
+  pub receipts-whole : total (receipts (held b)) ≡ acceptedCents xs
   -- "Each holder has exactly the sum of its unit-day portions of them, each rounded down or up to a cent as the paper's Settle places the
   -- leftover cents."
   pub receipts-same : receipts (held b) ≡ map (received t) (t .holders)
@@ -58,8 +57,8 @@ pub record Conserved (o : Opening) (b : Book) (t : Tally) (xs : List Heard) : Ty
   pub interest-same : b .account .«interest_paid» .0 ≡ sumsToday o t .interestPaid
 
 -- "For every list of these calls, in any order (Advance, Rate, Transfer, Settle, refused ones included), from a newly opened book, this holds
--- after it."
+-- after it." "Each call gets the book the last gave back, the first an accepted Open's."
 abbrev pub Conservation : Type 0
 Conservation =
     (o : Opening) (ks : List Call) → openingOf o .answer .number ≡ 0
-    → Conserved o (run (openingOf o .book) ks) (hears o (start o) (heard (openingOf o .book) ks)) (heard (openingOf o .book) ks)
+    → Conserved o (run (openingOf o .book) ks) (fedWith o (start o) (feedOf (openingOf o .book) ks)) (feedOf (openingOf o .book) ks)

@@ -13,7 +13,8 @@ use Rattle.book.specs.declared.Position.{Position}
 use Rattle.book.specs.declared.Refusal.the-variants as refusal
 use Rattle.book.specs.Advance.{advanced}
 use Rattle.book.specs.Book.{held}
-use Rattle.book.specs.Calls.{Call, Advance, Transfer, Settle, run}
+use Rattle.book.specs.Call.{Call, Advance, Transfer, Settle}
+use Rattle.book.specs.Calls.{run}
 use Rattle.book.specs.Outcome.{Answer, Taken, Changes, noDays, nothingTaken, noChanges, answered, declined}
 use Rattle.book.specs.Positions.{receipts}
 use Rattle.book.specs.Rate.{rated}

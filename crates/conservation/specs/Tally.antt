@@ -9,7 +9,7 @@ use Rattle.apportionment.specs.Apportionment.{part}
 use Rattle.apportionment.specs.Sum.{sumBelow}
 use Rattle.calendar.specs.Calendar.{dayCount}
 use Rattle.rates.specs.Rate.{dailyOf}
-use Rattle.book.specs.Calls.{Call, Advance, Rate, Transfer, Settle}
+use Rattle.book.specs.Call.{Call, Advance, Rate, Transfer, Settle}
 
 -- "The tally is fed Open's arguments, then each call's and whether it was accepted, and reads nothing else."
 
@@ -21,7 +21,7 @@ pub record Opening : Type 0 where
   pub holders : List ℕ
   pub shares : List ℕ
 
-pub record Heard : Type 0 where
+pub record Fed : Type 0 where
   pub call : Call
   pub accepted : Bool
 
@@ -109,9 +109,9 @@ entered o t (Transfer c a n) = transfer t c a n
 entered o t (Settle m) = settle t m
 
 -- "A refused call changes nothing."
-unfoldable pub hears : Opening → Tally → List Heard → Tally
-hears o t [] = t
-hears o t (x ∷ xs) = hears o (cond (x .accepted) (entered o t (x .call)) t) xs
+unfoldable pub fedWith : Opening → Tally → List Fed → Tally
+fedWith o t [] = t
+fedWith o t (x ∷ xs) = fedWith o (cond (x .accepted) (entered o t (x .call)) t) xs
 
 -- The money. "From accrued, interest paid and principal paid 0, it goes through day 0 to today."
 
@@ -120,8 +120,8 @@ pub record Sums : Type 0 where
   pub interestPaid : ℕ
   pub principalPaid : ℕ
 
-abbrev pub nothing : Sums
-nothing = record { accrued = 0; interestPaid = 0; principalPaid = 0 }
+abbrev pub noSums : Sums
+noSums = record { accrued = 0; interestPaid = 0; principalPaid = 0 }
 
 -- "Due is accrued / 10^10, rounded down, less interest paid"
 abbrev pub dueOf : Sums → ℕ
@@ -152,7 +152,7 @@ elapsing cents d s =
 
 -- every day before this one gone through
 unfoldable pub before : ℕ → (ℕ → ℕ) → (ℕ → Option ℕ) → ℕ → Sums
-before cents daily paid zero = nothing
+before cents daily paid zero = noSums
 before cents daily paid (suc day) = elapsing cents (daily day) (paying (paid day) (before cents daily paid day))
 
 -- a day's settlement too
