@@ -1,4 +1,5 @@
 // The book of one collection right (document 01, "The book"): its calls and its readers. A book goes in by value and comes back by value.
+// That it equals the tally after every list of calls is the theorem of the crate `conservation`.
 mod accrual;
 mod advancing;
 mod opening;

@@ -82,14 +82,14 @@ pub record Examples : Type 0 where
   pub example-5-one-day : ownBook 354054743000 (nextDay ∷ []) .account ≡ figures 354054743000 19209310 8924136000 0 0
   -- "Shares 350,100, 60,800, 441,600, 10,000, 137,500, one day, M = 100: 35, 6, 44, 1, 14."
   pub example-6-five-holders :
-    receipts (held (bookOf 30 354054743000 (1 ∷ 2 ∷ 3 ∷ 4 ∷ 5 ∷ []) (350100 ∷ 60800 ∷ 441600 ∷ 10000 ∷ 137500 ∷ []) (nextDay ∷ Settle 100 ∷ [])))
+      receipts (held (bookOf 30 354054743000 (1 ∷ 2 ∷ 3 ∷ 4 ∷ 5 ∷ []) (350100 ∷ 60800 ∷ 441600 ∷ 10000 ∷ 137500 ∷ []) (nextDay ∷ Settle 100 ∷ [])))
       ≡ 35 ∷ 6 ∷ 44 ∷ 1 ∷ 14 ∷ []
   -- "Equal halves, M = 1: 1, 0."
   pub example-7-equal-halves :
-    receipts (held (bookOf 30 354054743000 (1 ∷ 2 ∷ []) (500000 ∷ 500000 ∷ []) (nextDay ∷ Settle 1 ∷ []))) ≡ 1 ∷ 0 ∷ []
+      receipts (held (bookOf 30 354054743000 (1 ∷ 2 ∷ []) (500000 ∷ 500000 ∷ []) (nextDay ∷ Settle 1 ∷ []))) ≡ 1 ∷ 0 ∷ []
   -- "The split 67, 33 above.": the book of that file, and the lines B and H that are printed of it
   pub example-8-statement :
-    (totalsOf fileBook ≡ answered (record { today = 20140131; account = figures 0 0 1627656000 100 0 }))
+      (totalsOf fileBook ≡ answered (record { today = 20140131; account = figures 0 0 1627656000 100 0 }))
       × (held fileBook ≡ position 1 500000 0 67 ∷ position 2 500000 0 33 ∷ [])
   -- "20140101 plus 5,479 days is 20290101."
   pub example-9-fifteen-years : sumOf 20140101 5479 ≡ (0, 20290101)
@@ -98,11 +98,11 @@ pub record Examples : Type 0 where
   -- "1,000,000,000 cents at 2,000, one day, M = 100,000: 54,255 interest, 45,745 principal; then rate 0 from day 0: outstanding changes by
   -- −54,255, due by 0."
   pub example-11-regularised :
-    (takenOf (ownBook 1000000000 (nextDay ∷ [])) 100000 ≡ taken 54255 45745)
+      (takenOf (ownBook 1000000000 (nextDay ∷ [])) 100000 ≡ taken 54255 45745)
       × (changesAt0 (ownBook 1000000000 (nextDay ∷ Settle 100000 ∷ [])) ≡ changes (negℤ (pos 54255)) (pos 0))
   -- "The same day with M = 1,000,054,255 instead: that rate order is refused with 14."
   pub example-12-overpaid :
-    (takenOf (ownBook 1000000000 (nextDay ∷ [])) 1000054255 ≡ taken 54255 1000000000)
+      (takenOf (ownBook 1000000000 (nextDay ∷ [])) 1000054255 ≡ taken 54255 1000000000)
       × (changesAt0 (ownBook 1000000000 (nextDay ∷ Settle 1000054255 ∷ [])) ≡ declined noChanges refusal.Overpaid)
 
 -- "Edges: 92 days pass, 93 don't; M = 10^11 passes the amount check."
