@@ -20,7 +20,7 @@ use book::TransferAnswer;
 use libc::STDIN_FILENO;
 
 // The most numbers that a list of the input has.
-const LISTED: usize = 160;
+const LISTED: usize = 70;
 
 // The numbers of a list, and the position behind it.
 struct Listed {
@@ -63,7 +63,7 @@ fn put_position(position: Position) {
 
 // A list at a position: first how many numbers it has, then each.
 fn read_list(text: &[u8], at: usize) -> Listed
-    ensures { λ r. ⌜ (r .count ≤ 160) × (length (r .numbers) ≡ 160) ⌝ }
+    ensures { λ r. ⌜ (r .count ≤ 70) × (length (r .numbers) ≡ 70) ⌝ }
 {
     let mut numbers = [0u32; LISTED];
     let stated = cases::number_at(text, at);
@@ -132,8 +132,8 @@ fn open_listed(
     shares: Listed,
 ) -> Book
     requires { ⌜ Reached book ⌝ }
-    requires { ⌜ (holders .count ≤ 160) × (length (holders .numbers) ≡ 160) ⌝ }
-    requires { ⌜ (shares .count ≤ 160) × (length (shares .numbers) ≡ 160) ⌝ }
+    requires { ⌜ (holders .count ≤ 70) × (length (holders .numbers) ≡ 70) ⌝ }
+    requires { ⌜ (shares .count ≤ 70) × (length (shares .numbers) ≡ 70) ⌝ }
     ensures { λ r. ⌜ Reached r ⌝ }
 {
     let hs = holders.numbers;

@@ -62,16 +62,13 @@ file-ended =
     ∙ ap (λ (b : Book). bookAfter b (Settle 100)) last-days
 
 totals-ended : totalsOf ended ≡ answered (record { today = 20140131; account = figures 0 0 1627656000 100 0 })
-unfolding run opened isFinancing newBook emptyBook opening
-    advanced advancedTo dayCount daysOfYears daysPassed dayPassed withHeld withAccount withToday accruedDay inForce lastDay
+unfolding run opened isFinancing newBook emptyBook opening withHeld withAccount withToday accruedDay lastDay
     transferred moved settled settledBook withSettlement paidOff totalsOf after
-    part quotient remainder totalWeight leftover getsExtra rank comesBefore sumBelow countBelow
 totals-ended = refl
 
 held-ended : held ended ≡ position 1 500000 0 67 ∷ position 2 500000 0 33 ∷ []
-unfolding run opened isFinancing newBook emptyBook opening
-    advanced advancedTo dayCount daysOfYears daysPassed dayPassed withHeld withAccount withToday accruedDay inForce lastDay
-    transferred moved settled settledBook withSettlement paidOff totalsOf after
+unfolding run opened isFinancing newBook emptyBook opening withHeld withAccount withToday accruedDay lastDay
+    transferred moved settled settledBook withSettlement
     part quotient remainder totalWeight leftover getsExtra rank comesBefore sumBelow countBelow
 held-ended = refl
 

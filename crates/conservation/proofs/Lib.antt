@@ -15,5 +15,6 @@ pub mod SettleAgrees
 pub mod RateAgrees
 pub mod CallAgrees
 pub mod Conserved
+pub mod ReachedBooks
 pub mod SteadyDays
 pub mod Examples

@@ -38,13 +38,13 @@ module _ (b : Book) (known : OpenSound b) (t : Tally) (agrees : Agrees b t) (m :
   unpaid : t .paid (t .today) ≡ none
   unpaid = agrees .settlements (t .today) ∙ ap (settledOn (settlementsOf b)) (sym (agrees .today)) ∙ none-today
 
-  paid-before : (d : ℕ) → d < t .today → paying .paid d ≡ t .paid d
-  unfolding settle
-  paid-before d lt = rw (ne-eqb d (t .today) (λ e. omega arith))
-
   paid-now : paying .paid (t .today) ≡ some m
   unfolding settle
   paid-now = rw (eq-eqb (t .today) (t .today) refl)
+
+  paid-before : (d : ℕ) → d < t .today → paying .paid d ≡ t .paid d
+  unfolding settle
+  paid-before d lt = rw (ne-eqb d (t .today) (λ e. omega arith))
 
   -- Its weights are the unit-days up to today
 

@@ -87,8 +87,7 @@ share-days-absent t h from to e = sum-zero to _ (λ d lt. choice (λ (k : ℕ). 
 pub weight-same : (t t′ : Tally) (d h : ℕ) → ((k : ℕ) → k < d → t .paid k ≡ t′ .paid k) → ((k : ℕ) → k < d → t .share h k ≡ t′ .share h k)
     → weight t d h ≡ weight t′ d h
 unfolding weight
-weight-same t t′ d h p e =
-    ap (λ (from : ℕ). shareDays t h from d) (last-same (t .paid) (t′ .paid) d p) ∙ share-days-same t t′ h (lastBefore (t′ .paid) d) d e
+weight-same t t′ d h p e = rw (last-same (t .paid) (t′ .paid) d p) (share-days-same t t′ h _ d e)
 
 -- after day 0 there are unit-days to divide by
 pub weights-some : (t : Tally) (d : ℕ) → 0 < d → ((k : ℕ) → total (map (λ h. t .share h k) (t .holders)) ≡ 1000000)

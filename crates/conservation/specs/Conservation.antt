@@ -1,7 +1,7 @@
 -- Demand 3: after every list of calls from an accepted opening, the book equals the tally.
 use Prim.Native.Nat.{ℕ, _+_, _*_}
 use mathlib.Core.Path.{_≡_}
-use mathlib.Core.Bool.{cond}
+use mathlib.Core.Bool.{true, cond}
 use mathlib.Core.List.{List, [], _∷_, map}
 use Rattle.apportionment.specs.Sum.{sumBelow}
 use Rattle.book.specs.declared.Book.{Book}
@@ -11,6 +11,7 @@ use Rattle.book.specs.Calls.{bookAfter, accepts, run}
 use Rattle.book.specs.Open.{opened}
 use Rattle.book.specs.Outcome.{Outcome}
 use Rattle.book.specs.Positions.{holders, shares, receipts, total}
+use Rattle.book.specs.Reached.{Reached}
 use Rattle.conservation.specs.Tally.{Opening, Fed, Tally, start, fedWith, sumsToday, dueOf, outstandingOf, outstandingOn, dailyOfDay, shareToday, received}
 
 -- what Open gives back on the empty book
@@ -62,3 +63,15 @@ abbrev pub Conservation : Type 0
 Conservation =
     (o : Opening) (ks : List Call) → openingOf o .answer .number ≡ 0
     → Conserved o (run (openingOf o .book) ks) (fedWith o (start o) (feedOf (openingOf o .book) ks)) (feedOf (openingOf o .book) ks)
+
+-- "A book handed in may be supposed reached by these calls from an empty one": if open, it comes from an accepted opening and such a list, so
+-- the same holds of it.
+pub record History (b : Book) : Type 0 where
+  pub from : Opening
+  pub accepted : openingOf from .answer .number ≡ 0
+  pub calls : List Call
+  pub made : b ≡ run (openingOf from .book) calls
+  pub conserved : Conserved from b (fedWith from (start from) (feedOf (openingOf from .book) calls)) (feedOf (openingOf from .book) calls)
+
+abbrev pub ReachedConserved : Type 0
+ReachedConserved = (b : Book) → Reached b → b .opened ≡ true → History b

@@ -1,6 +1,8 @@
 //! The calls of the vectors. Each is given with the number that it must answer,
 //! worked out by hand; only calls at random have none.
 
+mod rate;
+
 use crate::book::Book;
 use crate::calendar::Calendar;
 use crate::calls::{Call, Opening};
@@ -30,6 +32,7 @@ pub fn call_cases() -> Vec<Call> {
     last_settlement(&mut cases);
     repayment(&mut cases);
     no_interest(&mut cases);
+    rate::cases(&mut cases);
     leap_years(&mut cases);
     highest_amounts(&mut cases);
     fifteen_years(&mut cases);
@@ -46,13 +49,14 @@ struct Cases {
 }
 
 impl Cases {
-    /// After a refusal come the totals and a position, to see that nothing moved.
+    /// After a refusal come the totals and a position, to see that nothing moved,
+    /// and after every rate, to see what did.
     fn any(&mut self, call: Call) -> u32 {
         let number = match call.run(&mut self.book) {
             Ok(_) => 0,
             Err(refusal) => refusal.number(),
         };
-        let look = number > 0 && !call.only_reads();
+        let look = matches!(call, Call::Rate { .. }) || number > 0 && !call.only_reads();
         self.calls.push(call);
         if look {
             self.look();
@@ -112,6 +116,18 @@ impl Cases {
 
     fn settle(&mut self, number: u32, cents: u64) {
         self.call(number, Call::Settle { cents });
+    }
+
+    fn rate(&mut self, number: u32, date: u32, annual: u64) {
+        self.call(number, Call::Rate { date, annual });
+    }
+
+    /// A rate that must change outstanding and due by so many cents.
+    fn changes(&mut self, date: u32, annual: u64, outstanding: i128, due: i128) {
+        let call = Call::Rate { date, annual };
+        let answer = call.run(&mut self.book.clone());
+        assert_eq!(answer, Ok(vec![outstanding, due]), "{call}");
+        self.call(0, call);
     }
 
     fn holder(&mut self, number: u32, holder: u32) {
@@ -192,6 +208,9 @@ fn empty_book(cases: &mut Cases) {
     cases.transfer(1, 0, 0, 0);
     for cents in [0, 100, MOST_SETTLED + 1] {
         cases.settle(1, cents);
+    }
+    for (date, annual) in [(20140101, 2_000), (20140229, 0), (0, 4_001)] {
+        cases.rate(1, date, annual);
     }
 }
 
@@ -445,7 +464,7 @@ fn open_book(cases: &mut Cases) {
     cases.look_at_all();
 }
 
-/// 5 to 8, and 11 and 12 without their rate orders.
+/// 5 to 8, 11 and 12.
 fn paper_examples(cases: &mut Cases) {
     let shares = [350_100, 60_800, 441_600, 10_000, 137_500];
     cases.start(Opening {
@@ -482,6 +501,10 @@ fn paper_examples(cases: &mut Cases) {
         cases.advance(0, day(1));
         cases.settle(0, cents);
         cases.look_at_all();
+        match cents {
+            100_000 => cases.changes(day(0), 0, -54_255, 0),
+            _ => cases.rate(14, day(0), 0),
+        }
     }
 }
 
@@ -771,9 +794,13 @@ fn last_settlement(cases: &mut Cases) {
         }
     }
     cases.transfer(0, 1, 3, 5);
+    cases.rate(0, day(count / 2), 0);
+    cases.rate(0, day(0), 4_000);
+    cases.rate(0, day(count), 1);
     cases.advance(9, day(count + 93));
     cases.advance(0, day(count + 92));
     cases.settle(12, 0);
+    cases.rate(0, day(1), 2_000);
     cases.advance(9, day(count + 93));
     cases.look_at_all();
 }
@@ -924,7 +951,8 @@ fn highest_amounts(cases: &mut Cases) {
     }
 }
 
-/// Fifteen years of monthly settlements, with a transfer in every month.
+/// Fifteen years of monthly settlements, with a transfer in every other month.
+/// Each March brings the rate of its year.
 fn fifteen_years(cases: &mut Cases) {
     let shares = [350_100, 60_800, 441_600, 10_000, 137_500];
     cases.start(Opening {
@@ -940,22 +968,33 @@ fn fifteen_years(cases: &mut Cases) {
         if month % 4 > 0 {
             cases.advance(0, previous + random.between(2, 28) as u32);
         }
-        let positions = cases.book.positions().expect("an open book").to_vec();
-        let cedent = random.pick(&positions);
-        let assignee = random.between(1, 12) as u32;
-        let parts = random.between(1, cedent.share.0 / 3 + 2);
-        cases.any(Call::Transfer {
-            cedent: cedent.holder,
-            assignee,
-            parts,
-        });
+        if month % 2 > 0 {
+            let positions = cases.book.positions().expect("an open book").to_vec();
+            let cedent = random.pick(&positions);
+            let assignee = random.between(1, 12) as u32;
+            let parts = random.between(1, cedent.share.0 / 3 + 2);
+            cases.any(Call::Transfer {
+                cedent: cedent.holder,
+                assignee,
+                parts,
+            });
+        }
         cases.advance(0, first);
+        // Before the day's settlement in even years, after it in odd ones.
+        let annual = 2_000 + random.below(400);
+        let rate_day = (month_of_year == 3).then_some(year * 10_000 + 101);
+        if let (Some(date), 0) = (rate_day, year % 2) {
+            cases.rate(0, date, annual);
+        }
         let cents = match month {
             180 => cases.owed(),
             _ if month % 31 == 0 => 0,
             _ => 2_270_000_000 + random.below(20_000_000),
         };
         cases.settle(0, cents);
+        if let (Some(date), 1) = (rate_day, year % 2) {
+            cases.rate(0, date, annual);
+        }
         if month % 12 == 0 {
             cases.look();
         }
@@ -963,6 +1002,13 @@ fn fifteen_years(cases: &mut Cases) {
     cases.look_at_all();
     cases.advance(8, 20290102);
     cases.settle(13, 0);
+    // All is paid: a 16th rate is stored, lower ones come too late.
+    cases.changes(20290101, 0, 0, 0);
+    cases.rate(8, 20290102, 0);
+    cases.rate(14, 20280101, 0);
+    cases.rate(14, 20140101, 1_999);
+    cases.rate(0, 20140101, 4_000);
+    cases.look_at_all();
 }
 
 /// 64 holders of 15,625, and what the leftover cents do among equals.
@@ -995,14 +1041,22 @@ fn equal_holders(cases: &mut Cases) {
 }
 
 fn lives_at_random(cases: &mut Cases) {
-    let mut random = Random::new();
-    for number in 0..38 {
-        let (temper, length) = match number % 11 {
-            10 => (Temper::Crowded, 25),
-            _ => (Temper::Mixed, 14 + number % 7 * 3),
-        };
+    /// With it the lives are not too long, and 3, 6, 8, 12 and 14 of Rate occur.
+    const SEED: u64 = 396;
+    let lives = [
+        (Temper::Mixed, 60),
+        (Temper::Revised, 90),
+        (Temper::Mixed, 60),
+        (Temper::Crowded, 30),
+        (Temper::Revised, 90),
+        (Temper::Mixed, 60),
+        (Temper::Revised, 60),
+        (Temper::Mixed, 60),
+    ];
+    for (number, (temper, length)) in lives.into_iter().enumerate() {
+        let mut random = Random::seeded(SEED, number as u64);
         cases.call(0, Call::Empty);
-        for call in lists::list(&mut random, temper, length, false) {
+        for call in lists::list(&mut random, temper, length) {
             cases.any(call);
         }
         cases.look();
@@ -1034,9 +1088,44 @@ mod tests {
             ('5', &[0, 1, 10]),
             ('6', &[0, 1, 10]),
             ('7', &[0, 1]),
+            ('8', &[0, 1, 3, 6, 8, 12, 14]),
         ] {
             expected.extend(numbers.iter().map(|&number| (digit, number)));
         }
         assert_eq!(seen, expected);
+    }
+
+    #[test]
+    fn lists_keep_to_their_length() {
+        for call in call_cases() {
+            if let Call::Open(opening) = call {
+                assert!(opening.holders.len() <= 70 && opening.shares.len() <= 70);
+            }
+        }
+    }
+
+    /// Both changes of a rate: less, none and more, in every combination.
+    #[test]
+    fn every_sign_of_a_change() {
+        let mut book = Book::empty();
+        let mut seen = BTreeSet::new();
+        for call in call_cases() {
+            let answer = call.run(&mut book);
+            if let (Call::Rate { .. }, Ok(changes)) = (call, answer) {
+                seen.insert((changes[0].signum(), changes[1].signum()));
+            }
+        }
+        assert_eq!(seen.len(), 9, "{seen:?}");
+    }
+
+    #[test]
+    fn after_each_rate_the_totals_and_a_position() {
+        let calls = call_cases();
+        for three in calls.windows(3) {
+            if let Call::Rate { .. } = three[0] {
+                assert!(matches!(three[1], Call::Totals));
+                assert!(matches!(three[2], Call::PositionAt { .. }));
+            }
+        }
     }
 }

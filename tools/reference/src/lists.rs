@@ -39,14 +39,13 @@ pub fn any(random: &mut Random) -> Vec<Call> {
         Temper::Monthly => random.between(300, 480),
         Temper::Daily => random.between(540, 640),
     };
-    list(random, temper, length, true)
+    list(random, temper, length)
 }
 
-/// A list of so many calls after the opening, with rates or without.
-pub fn list(random: &mut Random, temper: Temper, length: u64, with_rates: bool) -> Vec<Call> {
+/// A list of so many calls after the opening.
+pub fn list(random: &mut Random, temper: Temper, length: u64) -> Vec<Call> {
     let mut author = Author {
         temper,
-        with_rates,
         rates_from_today: random.one_in(2),
         random,
         book: Book::empty(),
@@ -65,7 +64,6 @@ pub fn list(random: &mut Random, temper: Temper, length: u64, with_rates: bool) 
 struct Author<'a> {
     random: &'a mut Random,
     temper: Temper,
-    with_rates: bool,
     rates_from_today: bool,
     book: Book,
     /// The accepted one.
@@ -112,7 +110,7 @@ impl Author<'_> {
             2 => Call::Settle {
                 cents: self.random.pick(&[0, 1, u64::MAX]),
             },
-            3 if self.with_rates => Call::Rate {
+            3 => Call::Rate {
                 date: 20140101,
                 annual: 0,
             },
@@ -163,7 +161,7 @@ impl Author<'_> {
         match kind {
             Some(1) => self.transfer(scene),
             Some(2) => self.settle(scene),
-            Some(3) if self.with_rates => self.rate(scene),
+            Some(3) => self.rate(scene),
             Some(4) if self.random.one_in(2) => Call::Open(self.good_opening()),
             Some(4) => Call::Open(self.bad_opening()),
             Some(5) => self.reader(scene),
@@ -375,8 +373,10 @@ impl Author<'_> {
                     opening.shares.push(1);
                 }
                 _ => {
-                    opening.holders.extend(1_000..1_065);
-                    opening.shares.extend([1; 65]);
+                    // 65 numbers; with the other faults there are at most 67.
+                    let (holders, shares) = (&mut opening.holders, &mut opening.shares);
+                    holders.extend(1_000 + holders.len() as u32..1_065);
+                    shares.resize(shares.len().max(65), 1);
                 }
             }
             if opening.holders.is_empty() {
@@ -474,5 +474,25 @@ impl Scene {
             Ok(days) => calendar.plus_days(FIRST, days).expect("a date"),
             Err(_) => 19991231,
         }
+    }
+}
+
+#[cfg(test)]
+mod tests {
+    use super::*;
+
+    /// The vectors' lines have room for lists of 70.
+    #[test]
+    fn no_list_of_an_opening_is_too_long() {
+        let mut longest = 0;
+        for number in 0..300 {
+            for call in any(&mut Random::seeded(1, number)) {
+                if let Call::Open(opening) = call {
+                    longest = longest.max(opening.holders.len());
+                    longest = longest.max(opening.shares.len());
+                }
+            }
+        }
+        assert!((65..=67).contains(&longest), "{longest}");
     }
 }

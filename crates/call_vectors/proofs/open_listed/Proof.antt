@@ -13,7 +13,7 @@ use Rattle.call_vectors.proofs.open_listed.Tie as tie
 array-share-prefix-hs : tie.Need-array-share-prefix-hs
 array-share-prefix-hs c = search needs
 
-listed : (n : ℕ) (l : List ℕ) → (n ≤ 160) × (length l ≡ 160) → n ≡ length (take n l)
+listed : (n : ℕ) (l : List ℕ) → (n ≤ 70) × (length l ≡ 70) → n ≡ length (take n l)
 listed n l h = sym (length-take-le n l (omega arith))
 
 slice-aggregate-open-book : tie.Need-slice-aggregate-open-book

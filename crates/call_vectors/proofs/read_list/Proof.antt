@@ -7,10 +7,10 @@ use Rattle.call_vectors.proofs.read_list.Statement.{statement}
 use Rattle.call_vectors.proofs.read_list.Tie as tie
 
 abbrev Inv-loop : tie.InvT-loop
-Inv-loop text at numbers₀ stated next₀ i₀ numbers next i = (i ≤ 160) × (length numbers ≡ 160)
+Inv-loop text at numbers₀ stated next₀ i₀ numbers next i = (i ≤ 70) × (length numbers ≡ 70)
 
 abbrev μ-loop : tie.MeasureT-loop
-μ-loop text at numbers₀ stated next₀ i₀ numbers next i = 160 - i
+μ-loop text at numbers₀ stated next₀ i₀ numbers next i = 70 - i
 
 number-at-requires : tie.Need-number-at-requires Inv-loop μ-loop
 number-at-requires c κs = search needs
