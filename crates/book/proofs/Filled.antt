@@ -2,8 +2,8 @@
 use Prim.Native.Nat.{ℕ, suc, _+_, _≤_, _<_}
 use native.Mathlib.Omega.{arith}
 use native.Mathlib.Numerals.{add-one}
-use mathlib.Core.Path.{_≡_, refl, sym, ap, _∙_}
-use mathlib.Core.List.{List, [], _∷_, _++_}
+use mathlib.Core.Path.{_≡_, sym}
+use mathlib.Core.List.{List, _∷_, _++_}
 use lib.ListN.{length, take, drop, getD, set, length-append, length-drop}
 use lib.Seq.{drop-cons, take-suc, take-length, append-snoc, getD-at, set-at, length-take-le}
 use Rattle.book.specs.declared.Book.{Book}
@@ -40,9 +40,9 @@ length-filled ts l i le room = let e = length-take-le i ts le in rw (length-appe
 pub filled-all : {A : Type 0} (ts l : List A) (i : ℕ) → i ≡ length ts → filled ts i l ≡ ts ++ drop (length ts) l
 filled-all ts l i e = rw (e, take-length ts)
 
--- the book with another array of positions
-abbrev pub withArray : Book → List Position → Book
-withArray b ps =
+-- the book with another count and another array of positions
+abbrev pub withStored : Book → ℕ → List Position → Book
+withStored b count ps =
     record {
       opened = b .opened;
       first = b .first;
@@ -50,13 +50,17 @@ withArray b ps =
       today = b .today;
       recognised = b .recognised;
       account = b .account;
-      count = b .count;
+      count = count;
       positions = ps;
       settled = b .settled;
       settlements = b .settlements;
       rated = b .rated;
       rates = b .rates;
     }
+
+-- the book with another array of positions
+abbrev pub withArray : Book → List Position → Book
+withArray b ps = withStored b (b .count) ps
 
 -- as many positions as before, all of them replaced
 pub all-replaced : (b : Book) (ts : List Position) (i : ℕ) → i ≡ length ts → length ts ≡ b .count → withArray b (filled ts i (b .positions)) ≡ withHeld b ts

@@ -16,29 +16,12 @@ use Rattle.book.specs.Outcome.{noParts, noPosition, accept, refuse}
 use Rattle.book.specs.Positions.{isHolder, place, present, shareOf, change, less, more}
 use Rattle.book.specs.Sound.{Sound, OpenSound}
 use Rattle.book.specs.Transfer.{moved, transferred}
+use Rattle.book.proofs.Filled.{withStored}
 use Rattle.book.proofs.Assigned.{assigned}
 use Rattle.book.proofs.Changes.{change-at, length-change, place-change, two-stored, next-stored}
 use Rattle.book.proofs.ChangedBook.{length-held}
 use Rattle.book.proofs.Places.{share-at, holder-at}
 use Rattle.book.proofs.ListTotals.{total-most-of}
-
--- the book with another count and another array of positions
-abbrev pub withStored : Book → ℕ → List Position → Book
-withStored b count ps =
-    record {
-      opened = b .opened;
-      first = b .first;
-      term = b .term;
-      today = b .today;
-      recognised = b .recognised;
-      account = b .account;
-      count = count;
-      positions = ps;
-      settled = b .settled;
-      settlements = b .settlements;
-      rated = b .rated;
-      rates = b .rates;
-    }
 
 stored-held : (b : Book) (l : List Position) (count : ℕ) (ps : List Position) → length l ≡ count → l ++ drop count (b .positions) ≡ ps
     → withStored b count ps ≡ withHeld b l
