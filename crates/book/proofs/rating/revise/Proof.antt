@@ -125,7 +125,7 @@ replay-requires c κs =
     let s = c .before .before .before .before .before .before in
     let n = c .before .before .before .count-before in
     let o = s .pre .0 .when-open (s .pre .1 .0) in (
-      (o .recognised-most, omega (arith, o .within-term, o .term-most)),
+      (omega (arith, o .recognised-most, o .bounded .principal), omega (arith, o .within-term, o .term-most)),
       (
         (
           omega (arith, n .ensures, s .pre .1 .1 .1),
