@@ -11,6 +11,8 @@ use Rattle.book.specs.declared.Advanced.{Advanced}
 use Rattle.book.specs.declared.Rated.{Rated}
 use Rattle.book.specs.declared.Transferred.{Transferred}
 use Rattle.book.specs.declared.Settled.{Settled}
+use Rattle.book.specs.Call.{Call, Advance, Rate, Transfer, Settle}
+use Rattle.book.specs.Calls.{bookAfter}
 use Rattle.book.specs.Outcome.{openStated, advanceStated, rateStated, transferStated, settleStated}
 use Rattle.book.specs.Open.{opened}
 use Rattle.book.specs.Advance.{advanced}
@@ -20,6 +22,14 @@ use Rattle.book.specs.Settle.{settled}
 use Rattle.book.specs.Reached.{Reached, opens, advances, rates, transfers, settles}
 
 module _ (b : Book) (reached : Reached b) where
+  -- by the definition of the call
+  pub call-reached : (k : Call) → Reached (bookAfter b k)
+  call-reached (Advance date) = advances reached date
+  call-reached (Rate date annual) = rates reached date annual
+  call-reached (Transfer c a n) = transfers reached c a (record { 0 = n })
+  call-reached (Settle m) = settles reached (record { 0 = m })
+
+  -- by what the call gave back
   pub open-reached : (first : ℕ) (term : Day) (annual : ℕ) (cents : Cents) (hs ss : List ℕ) (r : Opened)
       → openStated r ≡ opened b first term annual cents hs ss → Reached (r .book)
   open-reached first term annual cents hs ss r e =

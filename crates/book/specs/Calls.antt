@@ -1,14 +1,20 @@
--- Lists of calls after an opening, each given the book that the last gave back.
+-- An opening, and lists of calls after it, each given the book that the last gave back.
 use Prim.Native.Nat.{ℕ}
 use mathlib.Core.Bool.{Bool}
 use mathlib.Core.List.{List, [], _∷_}
 use lib.Dec.{eqb}
 use Rattle.book.specs.declared.Book.{Book}
-use Rattle.book.specs.Call.{Call, Advance, Rate, Transfer, Settle}
+use Rattle.book.specs.Call.{Opening, Call, Advance, Rate, Transfer, Settle}
+use Rattle.book.specs.Outcome.{Outcome}
+use Rattle.book.specs.Open.{opened}
 use Rattle.book.specs.Advance.{advanced}
 use Rattle.book.specs.Rate.{rated}
 use Rattle.book.specs.Transfer.{transferred}
 use Rattle.book.specs.Settle.{settled}
+
+-- what Open with these arguments gives back
+abbrev pub openedWith : Book → Opening → Outcome (Unit {0})
+openedWith b o = opened b (o .first) (record { 0 = o .term }) (o .annual) (record { 0 = o .cents }) (o .holders) (o .shares)
 
 -- the book that a call gives back, and the number that it answers
 abbrev pub bookAfter : Book → Call → Book

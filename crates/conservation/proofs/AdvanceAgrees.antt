@@ -7,7 +7,8 @@ use Rattle.book.specs.declared.Book.{Book}
 use Rattle.book.specs.Advance.{daysPassed}
 use Rattle.book.specs.Computation.{daysHeld}
 use Rattle.book.specs.Sound.{OpenSound, Sound}
-use Rattle.conservation.specs.Tally.{Opening, Tally, advance, dayOfDate, shareToday, shareDays, lastBefore, weight, portionOn, received}
+use Rattle.book.specs.Call.{Opening}
+use Rattle.conservation.specs.Tally.{Tally, advance, dayOfDate, shareToday, shareDays, lastBefore, weight, portionOn, received}
 use Rattle.book.proofs.Accepted.{AdvanceRight, daysTo}
 use Rattle.conservation.proofs.Agreement.{Agrees, positionOf, unitDaysOf, none-ahead}
 use Rattle.conservation.proofs.ByHolder.{position-same}

@@ -8,14 +8,14 @@ use lib.Dec.{eqb}
 use Rattle.book.specs.declared.Book.{Book}
 use Rattle.book.specs.declared.Refusal.{Refusal}
 use Rattle.book.specs.Book.{held}
-use Rattle.book.specs.Call.{Call, Advance, Rate, Transfer, Settle}
+use Rattle.book.specs.Call.{Opening, Call, Advance, Rate, Transfer, Settle}
 use Rattle.book.specs.Calls.{bookAfter, accepts}
 use Rattle.conservation.specs.Conservation.{centsOf}
 use Rattle.book.specs.Outcome.{Outcome, refusalNumber}
 use Rattle.book.specs.Positions.{receipts, total}
 use Rattle.book.specs.Rate.{withRates}
 use Rattle.book.specs.Sound.{Sound}
-use Rattle.conservation.specs.Tally.{Opening, Tally, dayOfDate, entered}
+use Rattle.conservation.specs.Tally.{Tally, dayOfDate, entered}
 use Rattle.book.proofs.Accepted.{advance-cases, transfer-cases, settle-cases, no-refusal-is-0, orderOf, ratesAfter, accountAfter, rate-cases}
 use Rattle.conservation.proofs.AdvanceAgrees.{agrees-advanced}
 use Rattle.conservation.proofs.Agreement.{Agrees}

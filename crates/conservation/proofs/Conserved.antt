@@ -8,18 +8,19 @@ use lib.Dec.{eqb}
 use Rattle.book.specs.declared.Book.{Book}
 use Rattle.book.specs.declared.Refusal.{Refusal}
 use Rattle.book.specs.Book.{held}
-use Rattle.book.specs.Call.{Call, Advance, Rate, Transfer, Settle}
+use Rattle.book.specs.Call.{Opening, Call, Advance, Rate, Transfer, Settle}
 use Rattle.book.specs.Calls.{bookAfter, accepts, run}
 use Rattle.book.specs.Outcome.{Outcome, refusalNumber}
 use Rattle.book.specs.Positions.{receipts, total}
-use Rattle.book.specs.Reached.{Reached, empty, opens, advances, rates, transfers, settles}
+use Rattle.book.specs.Reached.{Reached, empty, opens}
 use Rattle.book.specs.Sound.{Sound}
 use Rattle.book.proofs.Accepted.{orderOf, accountAfter, advance-cases, rate-cases, transfer-cases, settle-cases}
+use Rattle.book.proofs.Callers.{call-reached}
 use Rattle.book.proofs.Kept.{sound}
 use Rattle.book.proofs.StandingKept.{standing}
 use Rattle.book.proofs.Steps.{advance-step, transfer-step, settle-step}
 use Rattle.conservation.specs.Conservation.{openingOf, feedOf, acceptedCents, Conserved, Conservation}
-use Rattle.conservation.specs.Tally.{Opening, Tally, start, dayOfDate, entered, fedWith}
+use Rattle.conservation.specs.Tally.{Tally, start, dayOfDate, entered, fedWith}
 use Rattle.conservation.proofs.Agreement.{Agrees, holders-same, shares-same, shares-whole, receipts-same}
 use Rattle.conservation.proofs.CallAgrees.{not-accepted, agrees-after, receipts-after}
 use Rattle.conservation.proofs.MoneyConserved.{money-conserved}
@@ -47,12 +48,6 @@ module _ (o : Opening) (b : Book) (h : Sound b) (t : Tally) (was : SameTerms o b
       settle-cases b (record { 0 = m }) (StillSame (Settle m)) (refused (Settle m))
       (λ right. terms-settled o b _ t was (settle-step b h m right .same) m)
 
-reached-after : (b : Book) → Reached b → (k : Call) → Reached (bookAfter b k)
-reached-after b r (Advance date) = advances r date
-reached-after b r (Rate date annual) = rates r date annual
-reached-after b r (Transfer c a n) = transfers r c a (record { 0 = n })
-reached-after b r (Settle m) = settles r (record { 0 = m })
-
 module _ (o : Opening) where
   -- the invariant: a reached book whose terms and holders are the tally's
   record Joint (b : Book) (t : Tally) : Type 0 where
@@ -63,7 +58,7 @@ module _ (o : Opening) where
   joint-after : (b : Book) (t : Tally) → Joint b t → (k : Call) → Joint (bookAfter b k) (cond (accepts b k) (entered o t k) t)
   joint-after b t j k =
       record {
-        reached = reached-after b (j .reached) k;
+        reached = call-reached b (j .reached) k;
         terms = terms-after o b (sound b (j .reached)) t (j .terms) k;
         agrees = agrees-after o b (sound b (j .reached)) (j .terms .first) t (j .agrees) k;
       }

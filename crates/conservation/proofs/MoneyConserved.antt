@@ -7,7 +7,8 @@ use Rattle.book.specs.declared.Book.{Book}
 use Rattle.book.specs.Book.{ratesOf, settlementsOf}
 use Rattle.book.specs.Schedule.{dailyOn}
 use Rattle.book.specs.Standing.{settledOn}
-use Rattle.conservation.specs.Tally.{Opening, Tally, dailyOfDay, sumsOn, sumsToday, outstandingOn, dueOf, outstandingOf}
+use Rattle.book.specs.Call.{Opening}
+use Rattle.conservation.specs.Tally.{Tally, dailyOfDay, sumsOn, sumsToday, outstandingOn, dueOf, outstandingOf}
 use Rattle.conservation.proofs.AccountTally.{SameFigures, account-is-tally}
 use Rattle.book.proofs.NotOverpaid as not-overpaid
 use Rattle.conservation.proofs.SameTerms.{SameTerms}

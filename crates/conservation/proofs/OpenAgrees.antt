@@ -9,7 +9,8 @@ use Rattle.book.specs.Open.{founded, newBook}
 use Rattle.book.specs.Outcome.{Outcome}
 use Rattle.book.specs.Positions.{shares, receipts, total}
 use Rattle.book.specs.Standing.{settledOn}
-use Rattle.conservation.specs.Tally.{Opening, listed, start, shareDays, lastBefore, portionOn, received}
+use Rattle.book.specs.Call.{Opening}
+use Rattle.conservation.specs.Tally.{listed, start, shareDays, lastBefore, portionOn, received}
 use Rattle.book.proofs.Accepted.{open-cases, no-refusal-is-0}
 use Rattle.conservation.proofs.Agreement.{Agrees, unitDaysOf}
 use Rattle.conservation.proofs.ByHolder.{founded-is, listed-none}

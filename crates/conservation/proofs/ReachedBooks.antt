@@ -7,7 +7,7 @@ use Rattle.book.specs.declared.Book.{Book}
 use Rattle.book.specs.declared.Cents.{Cents}
 use Rattle.book.specs.declared.Day.{Day}
 use Rattle.book.specs.Book.{emptyBook}
-use Rattle.book.specs.Call.{Call, Advance, Rate, Transfer, Settle}
+use Rattle.book.specs.Call.{Opening, Call, Advance, Rate, Transfer, Settle}
 use Rattle.book.specs.Calls.{bookAfter, run}
 use Rattle.book.specs.Open.{opened}
 use Rattle.book.specs.Outcome.{Outcome}
@@ -17,7 +17,7 @@ use Rattle.book.proofs.Accepted.{open-cases, advance-cases, rate-cases, transfe
 use Rattle.book.proofs.Cases.{by-test, true-not-false}
 use Rattle.book.proofs.Kept.{sound}
 use Rattle.conservation.specs.Conservation.{openingOf, feedOf, Conserved, History, ReachedConserved}
-use Rattle.conservation.specs.Tally.{Opening, start, fedWith}
+use Rattle.conservation.specs.Tally.{start, fedWith}
 use Rattle.conservation.proofs.Conserved.{conserved}
 
 -- History without its last field, which follows

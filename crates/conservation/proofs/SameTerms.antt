@@ -8,7 +8,8 @@ use Rattle.book.specs.declared.Cents.{Cents}
 use Rattle.book.specs.Book.{orderFrom, ratesOf}
 use Rattle.book.specs.Rate.{withRate, withRates}
 use Rattle.book.specs.Schedule.{annualOn}
-use Rattle.conservation.specs.Tally.{Opening, Tally, start, advance, revise, transfer, settle, dayOfDate}
+use Rattle.book.specs.Call.{Opening}
+use Rattle.conservation.specs.Tally.{Tally, start, advance, revise, transfer, settle, dayOfDate}
 use Rattle.book.proofs.RateOrders.{rates-withRates, annual-opened, rate-sets-from}
 use Rattle.book.proofs.Steps.{OpenStep, SameRight}
 

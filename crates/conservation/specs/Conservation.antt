@@ -6,17 +6,16 @@ use mathlib.Core.List.{List, [], _∷_, map}
 use Rattle.apportionment.specs.Sum.{sumBelow}
 use Rattle.book.specs.declared.Book.{Book}
 use Rattle.book.specs.Book.{emptyBook, held}
-use Rattle.book.specs.Call.{Call, Advance, Rate, Transfer, Settle}
-use Rattle.book.specs.Calls.{bookAfter, accepts, run}
-use Rattle.book.specs.Open.{opened}
+use Rattle.book.specs.Call.{Opening, Call, Advance, Rate, Transfer, Settle}
+use Rattle.book.specs.Calls.{openedWith, bookAfter, accepts, run}
 use Rattle.book.specs.Outcome.{Outcome}
 use Rattle.book.specs.Positions.{holders, shares, receipts, total}
 use Rattle.book.specs.Reached.{Reached}
-use Rattle.conservation.specs.Tally.{Opening, Fed, Tally, start, fedWith, sumsToday, dueOf, outstandingOf, outstandingOn, dailyOfDay, shareToday, received}
+use Rattle.conservation.specs.Tally.{Fed, Tally, start, fedWith, sumsToday, dueOf, outstandingOf, outstandingOn, dailyOfDay, shareToday, received}
 
 -- what Open gives back on the empty book
 abbrev pub openingOf : Opening → Outcome (Unit {0})
-openingOf o = opened emptyBook (o .first) (record { 0 = o .term }) (o .annual) (record { 0 = o .cents }) (o .holders) (o .shares)
+openingOf = openedWith emptyBook
 
 -- what the tally is fed of a list of calls: each call's arguments, and whether it was accepted
 unfoldable pub feedOf : Book → List Call → List Fed

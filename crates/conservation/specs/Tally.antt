@@ -9,17 +9,9 @@ use Rattle.apportionment.specs.Apportionment.{part}
 use Rattle.apportionment.specs.Sum.{sumBelow}
 use Rattle.calendar.specs.Calendar.{dayCount}
 use Rattle.rates.specs.Rate.{dailyOf}
-use Rattle.book.specs.Call.{Call, Advance, Rate, Transfer, Settle}
+use Rattle.book.specs.Call.{Opening, Call, Advance, Rate, Transfer, Settle}
 
 -- "The tally is fed Open's arguments, then each call's and whether it was accepted, and reads nothing else."
-
-pub record Opening : Type 0 where
-  pub first : ℕ
-  pub term : ℕ
-  pub annual : ℕ
-  pub cents : ℕ
-  pub holders : List ℕ
-  pub shares : List ℕ
 
 pub record Fed : Type 0 where
   pub call : Call

@@ -1,0 +1,9 @@
+-- Facts about the definitions. `LineRoundTrip`, `LineParts` and `Examples` are what the crate states, the others are what proofs cite.
+pub mod FieldBounds
+pub mod Stores
+pub mod FieldRoundTrip
+pub mod LineStores
+pub mod LineRoundTrip
+pub mod LinePositions
+pub mod LineParts
+pub mod Examples

@@ -1,0 +1,57 @@
+// A reading position over a lent file, which moves line by line.
+ghost use mathlib.Core.Path.{_≡_};
+ghost use Rattle.lines.specs.Line.{readStated, lineOf};
+ghost use Rattle.lines.specs.Lines.{lineAt, endOf};
+use crate::Moved;
+use crate::ReadAnswer;
+use crate::Reader;
+use crate::Step;
+use crate::line::read_line;
+use crate::position::line_end;
+
+// The line at a position, and the position behind it. At the file's end the line is empty, so malformed, and the position stays.
+pub fn step_at(file: &[u8], at: usize) -> Step
+    ensures { λ r. ⌜ (readStated (r .line) ≡ lineOf (lineAt (now (file .entry)) at)) × (r .at ≡ endOf (now (file .entry)) at) ⌝ }
+{
+    if file.len() <= at {
+        return Step {
+            line: ReadAnswer::Malformed,
+            at,
+        };
+    }
+    let end = line_end(file, at);
+    let line = read_line(&file[at..end]);
+    Step { line, at: end }
+}
+
+// A reader at a position; a file's lines begin at 0.
+pub fn reader_at<'a>(file: &'a [u8], at: usize) -> Reader<'a>
+    ensures { λ r. ⌜ (r .file ≡ file .entry) × (r .at ≡ at) ⌝ }
+{
+    Reader { file, at }
+}
+
+// The line at the reader, and the reader moved behind it.
+pub fn next_line<'a>(r: Reader<'a>) -> Moved<'a>
+    ensures { λ m. ⌜ (m .reader .file ≡ r .entry .file) × (m .reader .at ≡ endOf (now (r .entry .file)) (r .entry .at)) × (readStated (m .line) ≡ lineOf (lineAt (now (r .entry .file)) (r .entry .at))) ⌝ }
+{
+    let s = step_at(r.file, r.at);
+    Moved {
+        reader: Reader {
+            file: r.file,
+            at: s.at,
+        },
+        line: s.line,
+    }
+}
+
+// One line, read through a reader: for whoever holds none.
+pub fn read_from(file: &[u8], at: usize) -> Step
+    ensures { λ r. ⌜ (readStated (r .line) ≡ lineOf (lineAt (now (file .entry)) at)) × (r .at ≡ endOf (now (file .entry)) at) ⌝ }
+{
+    let m = next_line(reader_at(file, at));
+    Step {
+        line: m.line,
+        at: m.reader.at,
+    }
+}
