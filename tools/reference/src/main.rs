@@ -7,20 +7,29 @@ mod book;
 mod calendar;
 mod call_cases;
 mod calls;
+mod file;
+mod file_calls;
+mod file_cases;
+mod line;
 mod lists;
+mod load_time;
 mod random;
 mod rates;
 mod refusal;
 mod tally;
 mod vectors;
 
+use std::fs;
 use std::io::{self, Write};
 use std::process::ExitCode;
 
+use load_time::load_time;
+
 const USAGE: &str = "\
 usage: reference rates | calendar-cases | calendar | apportionment-cases | apportionment
-                 | call-cases | calls
-       reference agree N SEED";
+                 | call-cases | calls | file-cases | files | longest
+       reference agree N SEED
+       reference load-time FILE ROUNDS";
 
 fn main() -> io::Result<ExitCode> {
     let arguments: Vec<String> = std::env::args().skip(1).collect();
@@ -33,14 +42,20 @@ fn main() -> io::Result<ExitCode> {
         ["apportionment"] => vectors::apportionment_output(),
         ["call-cases"] => vectors::call_input(),
         ["calls"] => vectors::call_output(),
+        ["file-cases"] => return print(&vectors::file_input()),
+        ["files"] => vectors::file_output(),
+        ["longest"] => return print(&file_cases::longest()),
         ["agree", lists, seed] => match (lists.parse(), seed.parse()) {
             (Ok(lists), Ok(seed)) => return agree(lists, seed),
             _ => return Ok(usage()),
         },
+        ["load-time", file, rounds] => match rounds.parse() {
+            Ok(rounds @ 1..) => vec![load_time(&fs::read(file)?, rounds).to_string()],
+            _ => return Ok(usage()),
+        },
         _ => return Ok(usage()),
     };
-    print(&lines)?;
-    Ok(ExitCode::SUCCESS)
+    print_lines(&lines)
 }
 
 fn usage() -> ExitCode {
@@ -56,11 +71,16 @@ fn agree(lists: u64, seed: u64) -> io::Result<ExitCode> {
     }
     let mut lines = report.coverage();
     lines.push(report.verdict());
-    print(&lines)?;
+    print_lines(&lines)?;
     Ok(ExitCode::from(u8::from(report.failed > 0)))
 }
 
-fn print(lines: &[String]) -> io::Result<()> {
+fn print_lines(lines: &[String]) -> io::Result<ExitCode> {
     let text = lines.join("\n") + "\n";
-    io::stdout().write_all(text.as_bytes())
+    print(text.as_bytes())
+}
+
+fn print(bytes: &[u8]) -> io::Result<ExitCode> {
+    io::stdout().write_all(bytes)?;
+    Ok(ExitCode::SUCCESS)
 }

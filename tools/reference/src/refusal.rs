@@ -16,6 +16,9 @@ pub enum Refusal {
     BookFull = 12,
     NoDayHeld = 13,
     Overpaid = 14,
+    EmptyFile = 20,
+    Line = 21,
+    Unfinished = 22,
 }
 
 impl Refusal {

@@ -7,6 +7,7 @@ use crate::apportionment::{apportion, HIGHEST_AMOUNT, PLACES};
 use crate::book::Book;
 use crate::calendar::{month_length, Calendar, FIRST, LAST};
 use crate::call_cases::call_cases;
+use crate::file_cases::file_cases;
 use crate::random::Random;
 use crate::rates::{daily, HIGHEST_ANNUAL};
 use crate::refusal::Refusal;
@@ -82,6 +83,25 @@ pub fn call_output() -> Vec<String> {
     for call in call_cases() {
         let answer = call.run(&mut book);
         lines.push(call.answer_line(&answer));
+    }
+    lines
+}
+
+/// Not a text: the files among the cases hold any bytes.
+pub fn file_input() -> Vec<u8> {
+    let cases = file_cases();
+    let mut input = format!("{}\n", cases.len()).into_bytes();
+    for case in cases {
+        case.put(&mut input);
+    }
+    input
+}
+
+pub fn file_output() -> Vec<String> {
+    let mut book = Book::empty();
+    let mut lines = Vec::new();
+    for case in file_cases() {
+        lines.extend(case.answer_lines(&mut book));
     }
     lines
 }
@@ -437,6 +457,26 @@ mod tests {
         assert!(lines.iter().all(|line| line.len() <= 1_400));
         assert!(bytes(&lines) < 60_000);
         assert!(bytes(&call_input()) < 62_000);
+        assert!(file_input().len() <= 500_000);
+    }
+
+    /// The first line, and the first case: the paper's example file.
+    #[test]
+    fn the_file_input_begins_with_its_number_of_cases() {
+        let first = format!("{}\n1 301\nO20140101", file_cases().len());
+        assert!(file_input().starts_with(first.as_bytes()));
+    }
+
+    #[test]
+    fn the_papers_file_as_printed() {
+        let expected = [
+            "0 0 6 301 301 0",
+            "0 20140131 0 0 1627656000 100 0",
+            "2",
+            "1 500000 0 67",
+            "2 500000 0 33",
+        ];
+        assert_eq!(file_output()[..5], expected);
     }
 
     fn bytes(lines: &[String]) -> usize {
