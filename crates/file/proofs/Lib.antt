@@ -1,0 +1,17 @@
+-- Facts about the definitions. `LoadRuns`, `LoadAccepts`, `LoadFaults`, `LoadEnds` and `Examples` are what the crate states; the others are what
+-- these and the code's proofs cite.
+pub mod LineOrders
+pub mod LoadSteps
+pub mod LoadCases
+pub mod OpenBooks
+pub mod OpeningHolders
+pub mod Saturation
+pub mod FinancingLines
+pub mod Openings
+pub mod CallAnswers
+pub mod Turnings
+pub mod LoadRuns
+pub mod LoadAccepts
+pub mod LoadFaults
+pub mod LoadEnds
+pub mod Examples

@@ -1,0 +1,19 @@
+-- Each case of `stopped`.
+use borrow.Author.Needs.{needs}
+use Rattle.file.proofs.loading.concluded.Statement.{statement}
+use Rattle.file.proofs.loading.concluded.Tie as tie
+
+enum-known-answer : tie.Need-enum-known-answer
+enum-known-answer c = search needs
+
+enum-known-answer-2 : tie.Need-enum-known-answer-2
+enum-known-answer-2 c = search needs
+
+returns : tie.Need-returns
+returns c = simp (c .before .answer .given .1)
+
+returns-2 : tie.Need-returns-2
+returns-2 c = simp (c .before .answer2 .given .1)
+
+pub concluded-spec : {M : Type 1} → statement M
+concluded-spec = tie.close (tie.spec enum-known-answer enum-known-answer-2 returns returns-2)

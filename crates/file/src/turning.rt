@@ -1,0 +1,156 @@
+// One turn of a load: a line, or an O line with its F lines.
+ghost use Prim.Native.Nat.{_+_, _≤_, _<_, _^_};
+ghost use lib.ListN.{length};
+ghost use mathlib.Core.List.{[]};
+ghost use Rattle.book.specs.Reached.{Reached};
+ghost use Rattle.file.specs.Load.{None, Waits, openingWith};
+ghost use Rattle.file.specs.Computation.{Ends, Turns};
+use crate::LoadAnswer;
+use crate::LoadRefusal;
+use crate::calls::CallAnswer;
+use crate::calls::call_line;
+use crate::financing::gather;
+use book::Book;
+use book::Cents;
+use book::Day;
+use book::OpenAnswer;
+use lines::Fields;
+use lines::ReadAnswer;
+
+pub enum Next {
+    On,
+    Stop(LoadAnswer),
+}
+
+// The book after a turn, the position behind its lines and the lines before that; or the load's answer.
+pub struct Turn {
+    pub next: Next,
+    pub book: Book,
+    pub at: usize,
+    pub lines: usize,
+}
+
+// An O line, the last of so many lines, with the F lines at the position behind it.
+pub fn open_turn(file: &[u8], book: Book, f: Fields, at: usize, lines: usize) -> Turn
+    requires { ⌜ Reached book ⌝ }
+    requires { ⌜ (at ≤ length (now file)) × (lines ≤ at) ⌝ }
+    ensures { λ r. ⌜ Turns (now (file .entry)) book (Waits lines (openingWith (f .date) (f .first) (f .second) (f .third) [] [])) at lines r ⌝ }
+{
+    let g = gather(file, at, lines);
+    let next = g.next;
+    let holders = g.holders;
+    let shares = g.shares;
+    let n = g.count;
+    match next {
+        Next::Stop(answer) => Turn {
+            next: Next::Stop(answer),
+            book,
+            at: g.at,
+            lines: g.lines,
+        },
+        Next::On => {
+            let opened = book::open_book(
+                book,
+                f.date,
+                Day(f.first),
+                f.second as u64,
+                Cents(f.third),
+                &holders[..n],
+                &shares[..n],
+            );
+            let answer = opened.answer;
+            let after = opened.book;
+            match answer {
+                OpenAnswer::Accepted => Turn {
+                    next: Next::On,
+                    book: after,
+                    at: g.at,
+                    lines: g.lines,
+                },
+                OpenAnswer::Refused(refusal) => Turn {
+                    next: Next::Stop(LoadAnswer::Refused {
+                        refusal: LoadRefusal::Call(refusal),
+                        line: lines,
+                    }),
+                    book: after,
+                    at: g.at,
+                    lines: g.lines,
+                },
+            }
+        }
+    }
+}
+
+// An E line with its count, behind so many lines.
+pub fn ending(count: u64, lines: usize, last: bool) -> LoadAnswer
+    requires { ⌜ lines + 2 < 2 ^ 64 ⌝ }
+    ensures { λ r. ⌜ Ends lines count last r ⌝ }
+{
+    if count != lines as u64 {
+        return LoadAnswer::Refused {
+            refusal: LoadRefusal::Unfinished,
+            line: lines + 1,
+        };
+    }
+    if !last {
+        return LoadAnswer::Refused {
+            refusal: LoadRefusal::Unfinished,
+            line: lines + 2,
+        };
+    }
+    LoadAnswer::Accepted(lines)
+}
+
+// The line at a position, behind so many lines.
+pub fn line_turn(file: &[u8], book: Book, at: usize, lines: usize) -> Turn
+    requires { ⌜ Reached book ⌝ }
+    requires { ⌜ (at < length (now file)) × (lines ≤ at) ⌝ }
+    ensures { λ r. ⌜ (Turns (now (file .entry)) book None at lines r) × (at < r .at) ⌝ }
+{
+    let step = lines::read_from(file, at);
+    let line = step.line;
+    let next = step.at;
+    let ReadAnswer::Read(f) = line else {
+        return Turn {
+            next: Next::Stop(LoadAnswer::Refused {
+                refusal: LoadRefusal::Line,
+                line: lines + 1,
+            }),
+            book,
+            at: next,
+            lines: lines + 1,
+        };
+    };
+    if f.letter == b'O' {
+        return open_turn(file, book, f, next, lines + 1);
+    }
+    if f.letter == b'E' {
+        let answer = ending(f.third, lines, next == file.len());
+        return Turn {
+            next: Next::Stop(answer),
+            book,
+            at: next,
+            lines: lines + 1,
+        };
+    }
+    let called = call_line(book, f);
+    let answer = called.answer;
+    let after = called.book;
+    match answer {
+        CallAnswer::Accepted => Turn {
+            next: Next::On,
+            book: after,
+            at: next,
+            lines: lines + 1,
+        },
+        CallAnswer::Refused(refusal) => Turn {
+            next: Next::Stop(LoadAnswer::Refused {
+                refusal,
+                line: lines + 1,
+            }),
+            book: after,
+            at: next,
+            lines: lines + 1,
+        },
+    }
+}
