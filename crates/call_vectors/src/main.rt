@@ -10,12 +10,9 @@ use book::Day;
 use book::OpenAnswer;
 use book::Parts;
 use book::PlaceAnswer;
-use book::Position;
 use book::PositionAnswer;
 use book::RateAnswer;
-use book::Refusal;
 use book::SettleAnswer;
-use book::TotalsAnswer;
 use book::TransferAnswer;
 use libc::STDIN_FILENO;
 
@@ -37,28 +34,6 @@ struct Step {
 
 fn narrow(value: u64) -> u32 {
     (value % 4294967296) as u32
-}
-
-// The number of a refusal, and so many zeros behind it.
-fn put_refused(refusal: Refusal, zeros: u32) {
-    if zeros == 0 {
-        cases::put(refusal.number() as u64, b'\n');
-        return;
-    }
-    cases::put(refusal.number() as u64, b' ');
-    let mut left = zeros;
-    while 1 < left {
-        cases::put(0, b' ');
-        left -= 1;
-    }
-    cases::put(0, b'\n');
-}
-
-fn put_position(position: Position) {
-    cases::put(position.holder as u64, b' ');
-    cases::put(position.share.0, b' ');
-    cases::put(position.unit_days, b' ');
-    cases::put(position.received.0, b'\n');
 }
 
 // A list at a position: first how many numbers it has, then each.
@@ -92,7 +67,7 @@ fn read_list(text: &[u8], at: usize) -> Listed
 fn put_opened(answer: OpenAnswer) {
     match answer {
         OpenAnswer::Accepted => cases::put(0, b'\n'),
-        OpenAnswer::Refused(refusal) => put_refused(refusal, 0),
+        OpenAnswer::Refused(refusal) => book_cases::put_refused(refusal, 0),
     }
 }
 
@@ -152,7 +127,7 @@ fn put_advanced(answer: AdvanceAnswer) {
             cases::put(0, b' ');
             cases::put(days.0 as u64, b'\n');
         }
-        AdvanceAnswer::Refused(refusal) => put_refused(refusal, 1),
+        AdvanceAnswer::Refused(refusal) => book_cases::put_refused(refusal, 1),
     }
 }
 
@@ -177,7 +152,7 @@ fn put_transferred(answer: TransferAnswer) {
             cases::put(0, b' ');
             cases::put(parts.0, b'\n');
         }
-        TransferAnswer::Refused(refusal) => put_refused(refusal, 1),
+        TransferAnswer::Refused(refusal) => book_cases::put_refused(refusal, 1),
     }
 }
 
@@ -213,7 +188,7 @@ fn put_settled(answer: SettleAnswer) {
             cases::put(interest.0, b' ');
             cases::put(principal.0, b'\n');
         }
-        SettleAnswer::Refused(refusal) => put_refused(refusal, 2),
+        SettleAnswer::Refused(refusal) => book_cases::put_refused(refusal, 2),
     }
 }
 
@@ -239,7 +214,7 @@ fn put_rated(answer: RateAnswer) {
             cases::put_signed(outstanding.0, b' ');
             cases::put_signed(due.0, b'\n');
         }
-        RateAnswer::Refused(refusal) => put_refused(refusal, 2),
+        RateAnswer::Refused(refusal) => book_cases::put_refused(refusal, 2),
     }
 }
 
@@ -267,9 +242,9 @@ fn read_holder(book: Book, text: &[u8], at: usize) -> usize
     match book::position_of(book, narrow(holder.value)) {
         PositionAnswer::Held(position) => {
             cases::put(0, b' ');
-            put_position(position);
+            book_cases::put_position(position);
         }
-        PositionAnswer::Refused(refusal) => put_refused(refusal, 4),
+        PositionAnswer::Refused(refusal) => book_cases::put_refused(refusal, 4),
     }
     holder.next
 }
@@ -283,28 +258,11 @@ fn read_place(book: Book, text: &[u8], at: usize) -> usize
         PlaceAnswer::Placed { count, position } => {
             cases::put(0, b' ');
             cases::put(count as u64, b' ');
-            put_position(position);
+            book_cases::put_position(position);
         }
-        PlaceAnswer::Refused(refusal) => put_refused(refusal, 5),
+        PlaceAnswer::Refused(refusal) => book_cases::put_refused(refusal, 5),
     }
     place.next
-}
-
-fn read_totals(book: Book)
-    requires { ⌜ Reached book ⌝ }
-{
-    match book::totals(book) {
-        TotalsAnswer::Totals { today, account } => {
-            cases::put(0, b' ');
-            cases::put(today as u64, b' ');
-            cases::put(account.outstanding.0, b' ');
-            cases::put(account.due.0, b' ');
-            cases::put(account.fraction, b' ');
-            cases::put(account.principal_paid.0, b' ');
-            cases::put(account.interest_paid.0, b'\n');
-        }
-        TotalsAnswer::Refused(refusal) => put_refused(refusal, 6),
-    }
 }
 
 // The reader of a number: 5 by holder, 6 by place, else the totals.
@@ -315,7 +273,7 @@ fn read_by(book: Book, text: &[u8], kind: u64, at: usize) -> usize
         5 => read_holder(book, text, at),
         6 => read_place(book, text, at),
         _ => {
-            read_totals(book);
+            book_cases::put_totals(book);
             at
         }
     }

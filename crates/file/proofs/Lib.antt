@@ -1,5 +1,5 @@
 -- Facts about the definitions. `LoadRuns`, `LoadAccepts`, `LoadFaults`, `LoadEnds` and `Examples` are what the crate states; the others are what
--- these and the code's proofs cite.
+-- these and the code's proofs cite, and `LoadCallers` what callers cite.
 pub mod LineOrders
 pub mod LoadSteps
 pub mod LoadCases
@@ -15,3 +15,4 @@ pub mod LoadAccepts
 pub mod LoadFaults
 pub mod LoadEnds
 pub mod Examples
+pub mod LoadCallers

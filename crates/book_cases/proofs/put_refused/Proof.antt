@@ -1,7 +1,7 @@
 -- The measure is the zeros left.
 use borrow.Author.Needs.{needs}
-use Rattle.call_vectors.proofs.put_refused.Statement.{statement}
-use Rattle.call_vectors.proofs.put_refused.Tie as tie
+use Rattle.book_cases.proofs.put_refused.Statement.{statement}
+use Rattle.book_cases.proofs.put_refused.Tie as tie
 
 abbrev Inv-loop : tie.InvT-loop
 Inv-loop zeros left₀ left = Unit {0}
