@@ -17,12 +17,15 @@ pub fn concluded(answer: LoadAnswer, after: Book, before: Book) -> Loaded
     ensures { λ r. ⌜ loadStated r ≡ stopped before answer after ⌝ }
 {
     match answer {
-        LoadAnswer::Accepted(count) => Loaded {
-            answer: LoadAnswer::Accepted(count),
+        LoadAnswer::Accepted(_) => Loaded {
+            answer,
             book: after,
         },
-        LoadAnswer::Refused { refusal, line } => Loaded {
-            answer: LoadAnswer::Refused { refusal, line },
+        LoadAnswer::Refused {
+            refusal: _,
+            line: _,
+        } => Loaded {
+            answer,
             book: before,
         },
     }

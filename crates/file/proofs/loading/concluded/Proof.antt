@@ -3,17 +3,17 @@ use borrow.Author.Needs.{needs}
 use Rattle.file.proofs.loading.concluded.Statement.{statement}
 use Rattle.file.proofs.loading.concluded.Tie as tie
 
-enum-known-answer : tie.Need-enum-known-answer
-enum-known-answer c = search needs
+enum-told : tie.Need-enum-told
+enum-told c = search needs
 
-enum-known-answer-2 : tie.Need-enum-known-answer-2
-enum-known-answer-2 c = search needs
+enum-told-2 : tie.Need-enum-told-2
+enum-told-2 c = search needs
 
 returns : tie.Need-returns
-returns c = simp (c .before .answer .given .1)
+returns c = simp (c .enum-told .given .1)
 
 returns-2 : tie.Need-returns-2
-returns-2 c = simp (c .before .answer2 .given .1)
+returns-2 c = simp (c .enum-told2 .given .1)
 
 pub concluded-spec : {M : Type 1} → statement M
-concluded-spec = tie.close (tie.spec enum-known-answer enum-known-answer-2 returns returns-2)
+concluded-spec = tie.close (tie.spec enum-told enum-told-2 returns returns-2)
