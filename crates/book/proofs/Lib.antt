@@ -39,4 +39,3 @@ pub mod AccountBounds
 pub mod StoredRates
 pub mod Replays
 pub mod RateKept
-pub mod Differences

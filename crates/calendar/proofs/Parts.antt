@@ -6,7 +6,7 @@ use native.Mathlib.Omega.{arith}
 use borrow.Author.Tests.{leb-true, le-leb, ltb-true}
 use lib.Dec.{leb, ltb}
 use Rattle.calendar.specs.Calendar.{firstDate, lastDate, yearOf, monthOf, dayOf, ymd, daysIn, isDate, following, next}
-use Rattle.calendar.proofs.Tests.{by-test}
+use Rattle.calendar.proofs.Tests.{choice}
 use Rattle.calendar.proofs.Lengths.{month-least, month-most}
 
 -- what holds of three parts holds of those of their number
@@ -23,8 +23,8 @@ of-parts P y m d a b p =
 pub of-following : (P : ℕ → Type 0) (y m d : ℕ) → (d < daysIn y m → P (ymd y m (d + 1)))
     → (m < 12 → P (ymd y (m + 1) 1)) → P (ymd (y + 1) 1 1) → P (following y m d)
 of-following P y m d same month year =
-    by-test P (ltb d (daysIn y m)) (λ e. same (ltb-true d (daysIn y m) e))
-    (λ _. by-test P (ltb m 12) (λ e. month (ltb-true m 12 e)) (λ _. year))
+    choice P (ltb d (daysIn y m)) (λ e. same (ltb-true d (daysIn y m) e))
+    (λ _. choice P (ltb m 12) (λ e. month (ltb-true m 12 e)) (λ _. year))
 
 pub next-ymd : (y m d : ℕ) → m < 100 → d < 100 → next (ymd y m d) ≡ following y m d
 next-ymd y m d a b = of-parts (λ i j k. following i j k ≡ following y m d) y m d a b refl

@@ -2,7 +2,8 @@
 use borrow.Author.Needs.{needs}
 use mathlib.Core.Path.{_∙_, sym, ap, ap₂}
 use mathlib.Core.Logic.{inl, inr}
-use Prim.Native.Nat.{ℕ}
+use Prim.Native.Nat.{ℕ, _<_, _^_}
+use native.Mathlib.Omega.{arith}
 use lib.IntN.{ℤ, pos, _-ℤ_}
 use mir.Facts.{toZ-ofZ}
 use Rattle.calendar.proofs.Differences.{difference, difference-fits}
@@ -49,8 +50,8 @@ cast-t8 c = search needs
 
 sub-t9 : tie.Need-sub-t9
 sub-t9 c =
-    let first = first-counted (c .before .before .before .before) .within in
-    let last = last-counted c .within in
+    let first : c .before .before .before .before .before .first .given .0 .0 < 2 ^ 63 = omega (arith, first-counted (c .before .before .before .before) .within) in
+    let last : c .before .last .given .0 .0 < 2 ^ 63 = omega (arith, last-counted c .within) in
     search difference-fits
 
 returns-3 : tie.Need-returns-3
@@ -58,7 +59,7 @@ returns-3 c =
     let first = first-counted (c .before .before .before .before) in
     let last = last-counted c in
     ap (λ (n : ℤ). (0, n))
-    (toZ-ofZ (sub-t9 c) ∙ difference _ _ (last .within) (first .within)
+    (toZ-ofZ (sub-t9 c) ∙ difference (c .before .last .given .0 .0) (c .before .before .before .before .before .first .given .0 .0) (omega (arith, last .within)) (omega (arith, first .within))
     ∙ ap₂ (λ (a b : ℕ). pos a -ℤ pos b) (last .is-count) (first .is-count))
     ∙ sym (between-dates _ _ (first .is-date) (last .is-date))
 

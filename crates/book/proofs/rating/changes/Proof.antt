@@ -1,11 +1,11 @@
 -- Both differences fit, as the figures are at most 10^12.
-use Prim.Native.Nat.{_≤_}
+use Prim.Native.Nat.{_<_, _^_}
 use native.Mathlib.Omega.{arith}
 use mathlib.Core.Path.{ap₂}
 use borrow.Author.Needs.{needs}
 use lib.IntN.{ℤ}
 use Rattle.book.specs.Outcome.{answered}
-use Rattle.book.proofs.Differences.{difference-fits, difference-is}
+use Rattle.calendar.proofs.Differences.{difference-fits, difference-is}
 use Rattle.book.proofs.rating.changes.Statement.{statement}
 use Rattle.book.proofs.rating.changes.Tie as tie
 
@@ -18,8 +18,8 @@ cast-outstanding-2 c = search needs
 sub-outstanding : tie.Need-sub-outstanding
 sub-outstanding c =
     let s = c .before .before in
-    let before : s .args .before .outstanding .0 ≤ 1000000000000 = omega (arith, s .pre .0) in
-    let after : s .args .after .outstanding .0 ≤ 1000000000000 = omega (arith, s .pre .1) in
+    let before : s .args .before .outstanding .0 < 2 ^ 63 = omega (arith, s .pre .0) in
+    let after : s .args .after .outstanding .0 < 2 ^ 63 = omega (arith, s .pre .1) in
     search difference-fits
 
 cast-due : tie.Need-cast-due
@@ -31,8 +31,8 @@ cast-due-2 c = search needs
 sub-due : tie.Need-sub-due
 sub-due c =
     let s = c .before .before .before .before in
-    let before : s .args .before .due .0 ≤ 1000000000000 = omega (arith, s .pre .0) in
-    let after : s .args .after .due .0 ≤ 1000000000000 = omega (arith, s .pre .1) in
+    let before : s .args .before .due .0 < 2 ^ 63 = omega (arith, s .pre .0) in
+    let after : s .args .after .due .0 < 2 ^ 63 = omega (arith, s .pre .1) in
     search difference-fits
 
 returns : tie.Need-returns
