@@ -129,7 +129,7 @@ pub fn filled(size: usize) -> Vec<u8> {
     (0..size).map(|place| 35 + (place % 90) as u8).collect()
 }
 
-fn digest(bytes: &[u8]) -> u64 {
+pub fn digest(bytes: &[u8]) -> u64 {
     bytes.iter().fold(bytes.len() as u64, |digest, &byte| {
         (digest * 31 + u64::from(byte)) % 4_294_967_291
     })

@@ -13,34 +13,17 @@ mod openings;
 mod orders;
 
 use crate::book::Book;
-use crate::calendar::Calendar;
 use crate::file::load;
 use crate::file_calls::{filled, number, FileCall};
 use crate::line::{read, write, Fields, LENGTH};
+use crate::order_text::*;
 
-#[cfg(test)]
-pub use lives::lines_of;
 pub use longest::longest;
 
 /// The number and the line of a load.
 type Answer = (u32, u64);
 
 const ACCEPTED: Answer = (0, 0);
-
-const ALL: u64 = 1_000_000;
-
-/// The highest third number.
-const WIDEST: u64 = 999_999_999_999_999;
-
-const PAPER: &str = concat!(
-    "O20140101       30     2000            100\n",
-    "F                1                 1000000\n",
-    "D20140111                                 \n",
-    "T                1        2         500000\n",
-    "D20140131                                 \n",
-    "S                                      100\n",
-    "E                                        6\n",
-);
 
 pub fn file_cases() -> Vec<FileCall> {
     let mut cases = Cases {
@@ -109,66 +92,6 @@ impl Cases {
         assert_eq!(buffer[used..], filled(size)[used..], "{fields:?} {size}");
         self.calls.push(FileCall::Write { fields, size });
     }
-}
-
-/// Any texts at the right ends of their columns.
-fn line(letter: &str, [date, first, second, third]: [&str; 4]) -> String {
-    format!("{letter}{date:>8}{first:>9}{second:>9}{third:>15}\n")
-}
-
-fn open(date: u32, term: u32, annual: u32, cents: u64) -> String {
-    format!("O{date:>8}{term:>9}{annual:>9}{cents:>15}\n")
-}
-
-fn finance(holder: u32, share: u64) -> String {
-    format!("F{holder:>17}{share:>24}\n")
-}
-
-fn advance(date: u32) -> String {
-    format!("D{date:>8}{:>33}\n", "")
-}
-
-fn rate(date: u32, annual: u64) -> String {
-    format!("R{date:>8}{annual:>33}\n")
-}
-
-fn transfer(cedent: u32, assignee: u32, parts: u64) -> String {
-    format!("T{cedent:>17}{assignee:>9}{parts:>15}\n")
-}
-
-fn settle(cents: u64) -> String {
-    format!("S{cents:>41}\n")
-}
-
-fn end(count: u64) -> String {
-    format!("E{count:>41}\n")
-}
-
-/// The lines and the E line that belongs to them.
-fn whole(lines: impl AsRef<str>) -> String {
-    let lines = lines.as_ref();
-    lines.to_string() + &end(line_feeds(lines))
-}
-
-fn line_feeds(lines: &str) -> u64 {
-    lines.matches('\n').count() as u64
-}
-
-/// Three lines: 365 days from 20140101 on, one million euros at 2 percent, two
-/// holders.
-fn opened() -> String {
-    open(20140101, 365, 2_000, 100_000_000) + &finance(1, 600_000) + &finance(2, 400_000)
-}
-
-/// So many F lines, for the holders from 1 on; 64 are the whole.
-fn financings(count: u32) -> String {
-    (1..=count).map(|holder| finance(holder, 15_625)).collect()
-}
-
-/// So many days after 20140101.
-fn day(number: u32) -> u32 {
-    let calendar = Calendar::gregorian();
-    calendar.plus_days(20140101, number).expect("a date")
 }
 
 #[cfg(test)]

@@ -7,15 +7,20 @@ mod book;
 mod calendar;
 mod call_cases;
 mod calls;
+mod compare;
 mod file;
 mod file_calls;
 mod file_cases;
 mod line;
 mod lists;
 mod load_time;
+mod order_text;
 mod random;
+mod random_files;
 mod rates;
 mod refusal;
+mod report_cases;
+mod statement;
 mod tally;
 mod vectors;
 
@@ -23,12 +28,16 @@ use std::fs;
 use std::io::{self, Write};
 use std::process::ExitCode;
 
+use compare::Pace;
 use load_time::load_time;
 
 const USAGE: &str = "\
 usage: reference rates | calendar-cases | calendar | apportionment-cases | apportionment
                  | call-cases | calls | file-cases | files | longest
+                 | report-cases | reports
+       reference statement
        reference agree N SEED
+       reference compare PROGRAM N SEED
        reference load-time FILE ROUNDS";
 
 fn main() -> io::Result<ExitCode> {
@@ -45,8 +54,18 @@ fn main() -> io::Result<ExitCode> {
         ["file-cases"] => return print(&vectors::file_input()),
         ["files"] => vectors::file_output(),
         ["longest"] => return print(&file_cases::longest()),
+        ["report-cases"] => return print(&vectors::report_input()),
+        ["reports"] => return print(&vectors::report_output()),
+        ["statement"] => {
+            let file = statement::file_from(io::stdin())?;
+            return print(statement::statement(&file).as_bytes());
+        }
         ["agree", lists, seed] => match (lists.parse(), seed.parse()) {
             (Ok(lists), Ok(seed)) => return agree(lists, seed),
+            _ => return Ok(usage()),
+        },
+        ["compare", program, files, seed] => match (files.parse(), seed.parse()) {
+            (Ok(files), Ok(seed)) => return compare(program, files, seed),
             _ => return Ok(usage()),
         },
         ["load-time", file, rounds] => match rounds.parse() {
@@ -66,6 +85,25 @@ fn usage() -> ExitCode {
 /// The lists that failed go to standard error.
 fn agree(lists: u64, seed: u64) -> io::Result<ExitCode> {
     let report = agree::agree(lists, seed);
+    for fault in &report.faults {
+        eprintln!("{fault}");
+    }
+    let mut lines = report.coverage();
+    lines.push(report.verdict());
+    print_lines(&lines)?;
+    Ok(ExitCode::from(u8::from(report.failed > 0)))
+}
+
+/// The files that failed go to standard error, by name.
+fn compare(program: &str, files: u64, seed: u64) -> io::Result<ExitCode> {
+    let report = compare::compare(files, seed, |number, file| {
+        let pace = if number.is_multiple_of(16) {
+            Pace::Halting
+        } else {
+            Pace::AtOnce
+        };
+        compare::run(program, file, pace)
+    })?;
     for fault in &report.faults {
         eprintln!("{fault}");
     }

@@ -11,6 +11,7 @@ use crate::file_cases::file_cases;
 use crate::random::Random;
 use crate::rates::{daily, HIGHEST_ANNUAL};
 use crate::refusal::Refusal;
+use crate::report_cases::report_cases;
 
 /// `ANNUAL NUMBER DAILY` for every annual rate, then for some beyond.
 pub fn rates() -> Vec<String> {
@@ -104,6 +105,24 @@ pub fn file_output() -> Vec<String> {
         lines.extend(case.answer_lines(&mut book));
     }
     lines
+}
+
+/// Not a text either.
+pub fn report_input() -> Vec<u8> {
+    let cases = report_cases();
+    let mut input = format!("{}\n", cases.len()).into_bytes();
+    for case in cases {
+        case.put(&mut input);
+    }
+    input
+}
+
+pub fn report_output() -> Vec<u8> {
+    let mut output = Vec::new();
+    for case in report_cases() {
+        case.put_answer(&mut output);
+    }
+    output
 }
 
 /// 0 and the value, or the refusal's number and 0.
@@ -458,6 +477,7 @@ mod tests {
         assert!(bytes(&lines) < 60_000);
         assert!(bytes(&call_input()) < 62_000);
         assert!(file_input().len() <= 500_000);
+        assert!(report_input().len() <= 200_000);
     }
 
     /// The first line, and the first case: the paper's example file.
@@ -477,6 +497,14 @@ mod tests {
             "2 500000 0 33",
         ];
         assert_eq!(file_output()[..5], expected);
+    }
+
+    /// The paper's file again, in the least buffer.
+    #[test]
+    fn the_report_input_begins_with_its_number_of_cases() {
+        let first = format!("{}\n3089 301\nO20140101", report_cases().len());
+        assert!(report_input().starts_with(first.as_bytes()));
+        assert!(report_output().starts_with(b"0 175 "));
     }
 
     fn bytes(lines: &[String]) -> usize {

@@ -1,19 +1,10 @@
 //! The paper's example, and the sentences of "Order file" one by one.
 
 use super::*;
-use crate::file_cases::lines_of;
 use crate::lists;
+use crate::order_text::{lines_of, PAPER};
 use crate::random::Random;
-
-const PAPER: &str = concat!(
-    "O20140101       30     2000            100\n",
-    "F                1                 1000000\n",
-    "D20140111                                 \n",
-    "T                1        2         500000\n",
-    "D20140131                                 \n",
-    "S                                      100\n",
-    "E                                        6\n",
-);
+use crate::statement::of_book;
 
 const STATEMENT: &str = concat!(
     "B20140131              0              0 1627656000            100              0\n",
@@ -28,27 +19,6 @@ const O: &str = "O20140101       30     2000            100\n";
 const F: &str = "F                1                 1000000\n";
 const D: &str = "D20140102                                 \n";
 const S: &str = "S                                        5\n";
-
-/// The B and H lines of an open book.
-fn statement(book: &Book) -> String {
-    let totals = book.totals().unwrap();
-    let mut text = format!(
-        "B{:>8}{:>15}{:>15}{:>11}{:>15}{:>15}\n",
-        totals.today,
-        totals.outstanding.0,
-        totals.due.0,
-        totals.fraction,
-        totals.principal_paid.0,
-        totals.interest_paid.0
-    );
-    for position in book.positions().unwrap() {
-        text += &format!(
-            "H{:>9}{:>9}{:>12}{:>15}\n",
-            position.holder, position.share.0, position.unit_days.0, position.received.0
-        );
-    }
-    text
-}
 
 fn opened() -> Book {
     let mut book = Book::empty();
@@ -95,7 +65,7 @@ fn the_papers_example() {
     assert_eq!(PAPER.len(), 301);
     let mut book = Book::empty();
     accepted(&mut book, PAPER, 6);
-    assert_eq!(statement(&book), STATEMENT);
+    assert_eq!(of_book(&book), STATEMENT);
 }
 
 #[test]
@@ -266,7 +236,7 @@ fn going_on() {
         accepted(&mut book, &file, months.len() as u64 - 1);
         refused_on(&mut book, &[O, F, E2].concat(), 2, 1, O);
     }
-    assert_eq!(statement(&book), STATEMENT);
+    assert_eq!(of_book(&book), STATEMENT);
 }
 
 /// A fault after orders that would be accepted takes them back.

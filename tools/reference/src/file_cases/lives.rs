@@ -1,7 +1,6 @@
 //! Lives of a book, month after month, each month a file.
 
 use super::*;
-use crate::calls::{Call, Opening};
 use crate::lists::{self, Temper};
 use crate::random::Random;
 
@@ -86,51 +85,6 @@ fn at_random(cases: &mut Cases) {
         }
         cases.load(ACCEPTED, whole(waiting));
         assert_eq!(cases.book, by_calls);
-    }
-}
-
-/// The lines of a call, if a file can have them.
-pub fn lines_of(call: &Call) -> Option<String> {
-    let dates = 0..=99_999_999;
-    let short = 0..=999_999_999;
-    let long = 0..=WIDEST;
-    match *call {
-        Call::Open(Opening {
-            first_day,
-            term,
-            annual,
-            cents,
-            ref holders,
-            ref shares,
-        }) => {
-            let annual = u32::try_from(annual).ok()?;
-            let fit = dates.contains(&first_day)
-                && short.contains(&term)
-                && short.contains(&annual)
-                && long.contains(&cents)
-                && holders.iter().all(|holder| short.contains(holder));
-            let lists_fit = holders.len() == shares.len() && holders.len() <= Book::POSITIONS;
-            let mut lines = open(first_day, term, annual, cents);
-            for (&holder, &share) in holders.iter().zip(shares) {
-                lines += &finance(holder, share.into());
-            }
-            (fit && lists_fit).then_some(lines)
-        }
-        Call::Advance { date } => dates.contains(&date).then(|| advance(date)),
-        Call::Rate { date, annual } => {
-            let fit = dates.contains(&date) && long.contains(&annual);
-            fit.then(|| rate(date, annual))
-        }
-        Call::Transfer {
-            cedent,
-            assignee,
-            parts,
-        } => {
-            let fit = short.contains(&cedent) && short.contains(&assignee) && long.contains(&parts);
-            fit.then(|| transfer(cedent, assignee, parts))
-        }
-        Call::Settle { cents } => long.contains(&cents).then(|| settle(cents)),
-        Call::Empty | Call::Position { .. } | Call::PositionAt { .. } | Call::Totals => None,
     }
 }
 
