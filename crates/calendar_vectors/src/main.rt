@@ -5,18 +5,10 @@ use calendar::DayCount;
 use calendar::DaysBetween;
 use libc::STDIN_FILENO;
 
-// What the digest is counted modulo.
-const MODULUS: u64 = 4294967291;
-
 // The dates of a year so far, and the digest.
 struct Tally {
     count: u64,
     digest: u64,
-}
-
-// The digest with one more number.
-fn mixed(digest: u64, x: u32) -> u64 {
-    (digest % MODULUS * 31 + x as u64) % MODULUS
 }
 
 // The date of a day counted from 20000101, 0 where there is none.
@@ -32,11 +24,11 @@ fn with_number(tally: Tally, x: u32) -> Tally {
     let is_date = calendar::is_date(x);
     match calendar::day_count(x) {
         DayCount::Day(day) => {
-            let mut digest = mixed(tally.digest, x);
-            digest = mixed(digest, day);
-            digest = mixed(digest, date_of(day));
+            let mut digest = cases::mixed(tally.digest, x as u64);
+            digest = cases::mixed(digest, day as u64);
+            digest = cases::mixed(digest, date_of(day) as u64);
             if !is_date {
-                digest = mixed(digest, 1);
+                digest = cases::mixed(digest, 1);
             }
             Tally {
                 count: std::num::wrapping_add_u64(tally.count, 1),
@@ -47,7 +39,7 @@ fn with_number(tally: Tally, x: u32) -> Tally {
             if is_date {
                 return Tally {
                     count: tally.count,
-                    digest: mixed(tally.digest, 1),
+                    digest: cases::mixed(tally.digest, 1),
                 };
             }
             tally

@@ -1,9 +1,10 @@
--- Decimal numbers in a list of bytes.
+-- Decimal numbers in a list of bytes, and the bytes of a case.
 use mathlib.Core.Bool.{Bool, cond, _&&_}
 use mathlib.Core.List.{List, [], _∷_}
 use Prim.Native.Nat.{ℕ, suc, _+_, _-_, _*_, min}
 use lib.Dec.{leb}
-use lib.ListN.{drop}
+use lib.ListN.{length, drop}
+use Rattle.cases.specs.declared.Bytes.{Bytes}
 use Rattle.cases.specs.declared.Number.{Number}
 
 -- the greatest u64
@@ -36,3 +37,11 @@ numberFrom v s at = record { value = min (decimal v (drop at s)) greatest; next 
 -- the first number from a position on
 unfoldable pub numberAt : List ℕ → ℕ → Number
 numberAt s at = numberFrom 0 s (at + skipped (drop at s))
+
+-- where the bytes of a case stand: as many as the first number from a position on says, or as the text has, behind the byte after the number
+unfoldable pub bytesAt : List ℕ → ℕ → Bytes
+bytesAt s at =
+    record {
+      start = min (numberAt s at .next + 1) (length s);
+      end = min (numberAt s at .next + 1 + numberAt s at .value) (length s);
+    }

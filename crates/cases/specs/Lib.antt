@@ -1,2 +1,4 @@
 -- The definitions that the contracts cite.
 pub mod Cases
+pub mod Digests
+pub mod Filled

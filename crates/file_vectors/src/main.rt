@@ -1,7 +1,5 @@
 // Loads the files of the input on a book, writes and reads its lines, and prints the answer to each case.
-ghost use Prim.Native.Nat.{_≤_, _<_};
-ghost use mathlib.Core.Path.{_≡_};
-ghost use lib.ListN.{length};
+ghost use Prim.Native.Nat.{_≤_};
 ghost use Rattle.book.specs.Reached.{Reached};
 use book::Book;
 use book::PlaceAnswer;
@@ -17,9 +15,6 @@ const INPUT: usize = 524288;
 // The most bytes of a buffer that a line is written into.
 const BUFFER: usize = 100;
 
-// The digest's modulus.
-const MODULUS: u64 = 4294967291;
-
 // The number of a malformed line.
 const MALFORMED: u64 = 21;
 
@@ -29,54 +24,8 @@ struct Step {
     next: usize,
 }
 
-// Where the bytes of a case begin and end.
-struct Bytes {
-    start: usize,
-    end: usize,
-}
-
 fn narrow(value: u64) -> u32 {
     (value % 4294967296) as u32
-}
-
-// The digest with one byte more.
-fn mixed(h: u64, byte: u8) -> u64
-    requires { ⌜ h < 4294967291 ⌝ }
-    ensures { λ r. ⌜ r < 4294967291 ⌝ }
-{
-    (h * 31 + byte as u64) % MODULUS
-}
-
-fn digest(bytes: &[u8]) -> u64 {
-    let mut h = bytes.len() as u64 % MODULUS;
-    let mut i: usize = 0;
-    while i < bytes.len() {
-        h = mixed(h, bytes[i]);
-        i += 1;
-    }
-    h
-}
-
-// The bytes of a case: their number stands at a position, and they begin behind the byte after it.
-fn bytes_at(text: &[u8], at: usize) -> Bytes
-    ensures { λ r. ⌜ (r .start ≤ r .end) × (r .end ≤ length (now (text .entry))) ⌝ }
-{
-    let count = cases::number_at(text, at);
-    let rest = text.len();
-    if rest <= count.next {
-        return Bytes {
-            start: rest,
-            end: rest,
-        };
-    }
-    let start = count.next + 1;
-    if count.value > (rest - start) as u64 {
-        return Bytes { start, end: rest };
-    }
-    Bytes {
-        start,
-        end: start + count.value as usize,
-    }
 }
 
 // All positions in book order, their number first.
@@ -123,7 +72,7 @@ fn put_part(file: &[u8], answer: LoadAnswer) {
     let bounds = file::part_bounds(file, answer);
     cases::put(bounds.start as u64, b' ');
     cases::put(bounds.end as u64, b' ');
-    cases::put(digest(file::refused_part(file, answer)), b'\n');
+    cases::put(cases::digest(file::refused_part(file, answer)), b'\n');
 }
 
 fn load(book: Book, file: &[u8]) -> Book
@@ -140,26 +89,13 @@ fn load(book: Book, file: &[u8]) -> Book
     after
 }
 
-// A buffer with other bytes at neighbouring places.
-fn filled() -> [u8; BUFFER]
-    ensures { λ r. ⌜ length r ≡ 100 ⌝ }
-{
-    let mut buffer = [0u8; BUFFER];
-    let mut i: usize = 0;
-    while i < BUFFER {
-        buffer[i] = 35 + (i % 90) as u8;
-        i += 1;
-    }
-    buffer
-}
-
 // Writes a line into a buffer, and prints its number and the buffer's digest.
 fn write(buffer: &mut [u8], f: Fields) {
     match lines::write_line(buffer, f) {
         WriteAnswer::Written => cases::put(0, b' '),
         WriteAnswer::Malformed => cases::put(MALFORMED, b' '),
     }
-    cases::put(digest(buffer), b'\n');
+    cases::put(cases::digest(buffer), b'\n');
 }
 
 fn size_of(value: u64) -> usize
@@ -186,7 +122,8 @@ fn write_case(text: &[u8], at: usize) -> usize {
         second: narrow(second.value),
         third: third.value,
     };
-    let mut buffer = filled();
+    let mut buffer = [0u8; BUFFER];
+    cases::fill(&mut buffer);
     let end = size_of(size.value);
     write(&mut buffer[..end], f);
     size.next
@@ -235,7 +172,7 @@ fn run_case(book: Book, text: &[u8], at: usize) -> Step
         let next = write_case(text, kind.next);
         return Step { book, next };
     }
-    let bytes = bytes_at(text, kind.next);
+    let bytes = cases::bytes_at(text, kind.next);
     let start = bytes.start;
     let end = bytes.end;
     if number == 1 {

@@ -4,15 +4,6 @@ use mathlib.Core.Path.{sym, subst}
 use Rattle.book.specs.Reached.{Reached, empty}
 use Rattle.file_vectors.proofs.run_case.Statement.{statement}
 use Rattle.file_vectors.proofs.run_case.Tie as tie
-use Rattle.file_vectors.proofs.run_case.Reads as reads
-use Rattle.file_vectors.proofs.run_case.Lts as lts
-use Rattle.book.proofs.Book.empty.Reads as empty-reads
-use Rattle.cases.proofs.number_at.Reads as number-at-reads
-use Rattle.cases.proofs.put.Reads as put-reads
-use Rattle.file_vectors.proofs.bytes_at.Reads as bytes-at-reads
-use Rattle.file_vectors.proofs.load.Reads as load-reads
-use Rattle.file_vectors.proofs.read.Reads as read-reads
-use Rattle.file_vectors.proofs.write_case.Reads as write-case-reads
 
 number-at-requires : tie.Need-number-at-requires
 number-at-requires c κs = search needs

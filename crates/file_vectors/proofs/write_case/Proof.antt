@@ -5,13 +5,6 @@ use mathlib.Core.Path.{sym}
 use lib.Seq.{length-take-le}
 use Rattle.file_vectors.proofs.write_case.Statement.{statement}
 use Rattle.file_vectors.proofs.write_case.Tie as tie
-use Rattle.file_vectors.proofs.write_case.Reads as reads
-use Rattle.file_vectors.proofs.write_case.Lts as lts
-use Rattle.cases.proofs.number_at.Reads as number-at-reads
-use Rattle.file_vectors.proofs.filled.Reads as filled-reads
-use Rattle.file_vectors.proofs.narrow.Reads as narrow-reads
-use Rattle.file_vectors.proofs.size_of.Reads as size-of-reads
-use Rattle.file_vectors.proofs.write.Reads as write-reads
 
 number-at-requires : tie.Need-number-at-requires
 number-at-requires c κs = search needs
@@ -43,8 +36,11 @@ narrow-requires-2 c κs = search needs
 narrow-requires-3 : tie.Need-narrow-requires-3
 narrow-requires-3 c κs = search needs
 
-filled-requires : tie.Need-filled-requires
-filled-requires c κs = search needs
+slice-aggregate-fill : tie.Need-slice-aggregate-fill
+slice-aggregate-fill c = search needs
+
+fill-requires : tie.Need-fill-requires
+fill-requires c κs = search needs
 
 size-of-requires : tie.Need-size-of-requires
 size-of-requires c κs = search needs
@@ -53,7 +49,7 @@ array-borrow-prefix-buffer : tie.Need-array-borrow-prefix-buffer
 array-borrow-prefix-buffer c = search needs
 
 slice-aggregate-write : tie.Need-slice-aggregate-write
-slice-aggregate-write c = sym (length-take-le _ _ (omega (arith, c .before .size-of .ensures, c .before .before .filled .ensures)))
+slice-aggregate-write c = sym (length-take-le _ _ (omega (arith, c .before .size-of .ensures)))
 
 write-requires : tie.Need-write-requires
 write-requires c κs = search needs
@@ -75,7 +71,8 @@ write-case-spec =
     narrow-requires
     narrow-requires-2
     narrow-requires-3
-    filled-requires
+    slice-aggregate-fill
+    fill-requires
     size-of-requires
     array-borrow-prefix-buffer
     slice-aggregate-write

@@ -8,8 +8,8 @@ use borrow.Author.Tests.{not-true, not-false}
 use lib.ListN.{length, getD}
 use Rattle.cases.specs.Cases.{greatest, numberFrom, numberAt, isDigit}
 use Rattle.cases.proofs.Steps.{in-range, reads, stops, ends}
-use Rattle.cases.proofs.number_at.Statement.{statement}
-use Rattle.cases.proofs.number_at.Tie as tie
+use Rattle.cases.proofs.reading.number_at.Statement.{statement}
+use Rattle.cases.proofs.reading.number_at.Tie as tie
 
 abbrev Inv-loop : tie.InvT-loop
 Inv-loop s at i₀ value₀ i value = (value ≤ greatest) × (numberAt s at ≡ numberFrom value s i)

@@ -6,8 +6,8 @@ use borrow.Author.Needs.{needs}
 use lib.ListN.{length, drop}
 use Rattle.cases.specs.Cases.{skipped}
 use Rattle.cases.proofs.Steps.{skips, skips-none, skips-to-end}
-use Rattle.cases.proofs.first_digit.Statement.{statement}
-use Rattle.cases.proofs.first_digit.Tie as tie
+use Rattle.cases.proofs.reading.first_digit.Statement.{statement}
+use Rattle.cases.proofs.reading.first_digit.Tie as tie
 
 abbrev Inv-loop : tie.InvT-loop
 Inv-loop s at i₀ i = at + skipped (drop at s) ≡ i + skipped (drop i s)

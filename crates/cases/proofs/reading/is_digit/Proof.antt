@@ -1,8 +1,8 @@
 -- Each answer by the tests that led to it.
 use borrow.Author.Tests.{le-leb, lt-leb}
 use Rattle.cases.specs.Cases.{isDigit}
-use Rattle.cases.proofs.is_digit.Statement.{statement}
-use Rattle.cases.proofs.is_digit.Tie as tie
+use Rattle.cases.proofs.reading.is_digit.Statement.{statement}
+use Rattle.cases.proofs.reading.is_digit.Tie as tie
 
 returns : tie.Need-returns
 unfolding isDigit

@@ -11,8 +11,8 @@ use lib.Signed.{mag, ltZ, nonNeg}
 use mir.Syntax.{w64}
 use mir.Val.{Fits, toZ, ofZ}
 use mir.Facts.{toZ-ofZ}
-use Rattle.cases.proofs.size.Statement.{statement}
-use Rattle.cases.proofs.size.Tie as tie
+use Rattle.cases.proofs.printing.size.Statement.{statement}
+use Rattle.cases.proofs.printing.size.Tie as tie
 
 -- one less than the size of a negative number
 less : (z : ℤ) → ltZ z (pos 0) ≡ true → negsuc 0 -ℤ z ≡ pos (mag z)
