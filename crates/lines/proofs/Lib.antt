@@ -7,3 +7,4 @@ pub mod LineRoundTrip
 pub mod LinePositions
 pub mod LineParts
 pub mod Examples
+pub mod NumberPut

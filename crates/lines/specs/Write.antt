@@ -1,9 +1,10 @@
 -- The line that is written for given fields (document 01, "Order file").
-use Prim.Native.Nat.{ℕ, _^_}
+use Prim.Native.Nat.{ℕ, _+_, _^_}
 use mathlib.Core.List.{List, [], _∷_, _++_}
 use mathlib.Core.Bool.{Bool, true, false, cond, _&&_}
 use lib.ListN.{length, drop}
 use lib.Dec.{ltb, leb, eqb}
+use lib.Seq.{sets}
 use Rattle.lines.specs.declared.Fields.{Fields}
 use Rattle.lines.specs.declared.WriteAnswer.{WriteAnswer}
 use Rattle.lines.specs.declared.WriteAnswer.the-variants.{Written, Malformed}
@@ -52,3 +53,7 @@ lineBytes f = bytesUnder (usesOf (f .letter)) f
 -- unknown letter, a field too wide, an unused field not 0, or a shorter buffer.": its number, and the buffer afterwards
 unfoldable pub writtenOf : Fields → List ℕ → ℕ × List ℕ
 writtenOf f buffer = cond (leb 43 (length buffer) && writable f) (0, lineBytes f ++ drop 43 buffer) (malformedNumber, buffer)
+
+-- a buffer with the number n in its w columns from a position on; as it was where they are not all there
+unfoldable pub numberPut : List ℕ → (at w n : ℕ) → List ℕ
+numberPut buffer at w n = cond (leb (at + w) (length buffer)) (sets buffer at (justified w n)) buffer

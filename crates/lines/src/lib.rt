@@ -11,6 +11,7 @@ pub use crate::position::line_part;
 pub use crate::reading::next_line;
 pub use crate::reading::read_from;
 pub use crate::reading::reader_at;
+pub use crate::write::put_number;
 pub use crate::write::write_line;
 ghost use Rattle.lines.specs.RoundTrip.{RoundTrip};
 ghost use Rattle.lines.specs.LineParts.{LineParts};

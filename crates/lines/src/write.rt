@@ -3,7 +3,7 @@ ghost use mathlib.Core.Path.{_≡_};
 ghost use Prim.Native.Nat.{_+_, _≤_, _<_};
 ghost use lib.ListN.{length};
 ghost use lib.Seq.{sets};
-ghost use Rattle.lines.specs.Write.{fits, writable, fieldBytes, lineBytes, writeStated, writtenOf};
+ghost use Rattle.lines.specs.Write.{fits, writable, fieldBytes, lineBytes, writeStated, writtenOf, numberPut};
 use crate::Fields;
 use crate::WriteAnswer;
 use crate::field::write_number;
@@ -86,4 +86,20 @@ pub fn write_line(buf: &mut [u8], f: Fields) -> WriteAnswer
     }
     put_line(buf, f);
     WriteAnswer::Written
+}
+
+// A number in `width` columns from a position on, right-justified; nothing where the buffer is too short for them.
+pub fn put_number(buf: &mut [u8], at: usize, width: usize, n: u64)
+    ensures { λ _. ⌜ now (buf .exit) ≡ numberPut (now (buf .entry)) at width n ⌝ }
+{
+    if width == 0 {
+        return;
+    }
+    if buf.len() < at {
+        return;
+    }
+    if buf.len() - at < width {
+        return;
+    }
+    write_number(buf, at, width, n);
 }

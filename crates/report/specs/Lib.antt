@@ -1,0 +1,3 @@
+-- The bytes of a statement, and the theorems about them.
+pub mod Statement
+pub mod Statements

@@ -1,0 +1,21 @@
+// The statement of a file (document 01, "Statement program"): the bytes that are printed, in a lent buffer.
+mod printing;
+
+pub use crate::printing::report;
+ghost use Rattle.report.specs.Statements.{Statements};
+
+// How many bytes were printed, or that the buffer is too short for some statement.
+pub enum Reported {
+    Printed(usize),
+    Short,
+}
+
+impl Reported {
+    // What every statement fits into: a B line and 64 H lines.
+    pub const BYTES: usize = 3089;
+}
+
+// That every statement fits, that no figure of a book is cut, and document 01's example. It does nothing.
+pub fn theorems()
+    ensures { λ r. ⌜ Statements ⌝ }
+{}
