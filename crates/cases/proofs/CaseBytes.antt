@@ -3,7 +3,6 @@ use mathlib.Core.Path.{_≡_}
 use mathlib.Core.List.{List}
 use Prim.Native.Nat.{ℕ, _+_, min}
 use lib.ListN.{length}
-use Rattle.cases.specs.declared.Bytes.{Bytes}
 use Rattle.cases.specs.declared.Number.{Number}
 use Rattle.cases.specs.Cases.{numberAt, bytesAt}
 

@@ -1,5 +1,4 @@
 -- Number and book of what a call gives back, by the case of its answer.
-use Prim.Native.Nat.{ℕ}
 use mathlib.Core.Path.{_≡_, sym, ap, _∙_}
 use Rattle.book.specs.declared.Book.{Book}
 use Rattle.book.specs.Outcome.{Answer, Outcome}

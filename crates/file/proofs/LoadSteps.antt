@@ -1,6 +1,6 @@
 -- One line of a load, at a position of the file.
 use mathlib.Core.Path.{_≡_, refl, sym, ap, _∙_}
-use mathlib.Core.Bool.{Bool, true, false, cond}
+use mathlib.Core.Bool.{true, false}
 use mathlib.Core.List.{List, [], _∷_}
 use Prim.Native.Nat.{ℕ, _+_, _≤_, _<_}
 use native.Mathlib.Omega.{arith}
@@ -13,8 +13,8 @@ use Rattle.book.specs.Call.{Opening}
 use Rattle.lines.specs.Lines.{lines, lineAt, endOf}
 use Rattle.lines.proofs.LinePositions.{lines-at, lines-end, first-byte, end-within}
 use Rattle.file.specs.declared.LoadRefusal.the-variants as refusal
-use Rattle.file.specs.Order.{Order, orderIn}
-use Rattle.file.specs.Load.{Outcome, Waiting, None, Waits, refused, noneLeft, beginsWithF, financed, afterOpen, afterFinancing, afterLine, loadFrom}
+use Rattle.file.specs.Order.{orderIn}
+use Rattle.file.specs.Load.{Waiting, None, Waits, refused, noneLeft, beginsWithF, financed, afterOpen, afterFinancing, afterLine, loadFrom}
 
 -- no line is left at the file's end, and only there
 none-left : (s : List ℕ) (at : ℕ) → at ≤ length s → noneLeft (lines (drop at s)) ≡ eqb at (length s)

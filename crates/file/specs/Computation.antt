@@ -1,19 +1,17 @@
 -- What the parts of the load do. Private contracts alone cite this: nobody has to believe it.
-use Prim.Native.Nat.{ℕ, _+_, _≤_, _<_}
+use Prim.Native.Nat.{ℕ, _≤_}
 use mathlib.Core.Path.{_≡_}
 use mathlib.Core.Bool.{Bool, cond}
 use mathlib.Core.List.{List, []}
 use lib.Dec.{ltb}
 use lib.ListN.{length, take, drop}
 use Rattle.book.specs.declared.Book.{Book}
-use Rattle.book.specs.Call.{Opening, Call}
+use Rattle.book.specs.Call.{Call}
 use Rattle.book.specs.Calls.{bookAfter, numberOf}
 use Rattle.book.specs.Reached.{Reached}
-use Rattle.lines.specs.declared.Fields.{Fields}
 use Rattle.lines.specs.Lines.{lines}
 use Rattle.file.specs.declared.LoadAnswer.{LoadAnswer}
 use Rattle.file.specs.declared.LoadAnswer.the-variants as answer
-use Rattle.file.specs.declared.LoadRefusal.{LoadRefusal}
 use Rattle.file.specs.declared.LoadRefusal.the-variants as refusal
 use Rattle.file.specs.declared.calls.CallAnswer.{CallAnswer}
 use Rattle.file.specs.declared.calls.CallAnswer.the-variants as call-answer

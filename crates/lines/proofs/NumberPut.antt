@@ -1,11 +1,11 @@
 -- A number put into a buffer, by whether its columns are there.
-use mathlib.Core.Path.{_≡_, refl, sym}
+use mathlib.Core.Path.{_≡_, refl}
 use mathlib.Core.Bool.{Bool, true, false, cond}
 use mathlib.Core.List.{List}
 use Prim.Native.Nat.{ℕ, _+_, _≤_, _<_}
 use lib.Dec.{leb}
 use lib.ListN.{length}
-use lib.Seq.{sets}
+use lib.Seq.{sets, length-sets}
 use borrow.Author.Tests.{le-leb, lt-leb}
 use Rattle.lines.specs.Field.{justified}
 use Rattle.lines.specs.Write.{numberPut}
@@ -27,3 +27,11 @@ module _ (b : List ℕ) (at : ℕ) where
     pub put-within : at + w ≤ length b → numberPut b at w n ≡ sets b at (justified w n)
     unfolding numberPut
     put-within h = simp (le-leb (at + w) (length b) h)
+
+    pub length-put : length (numberPut b at w n) ≡ length b
+    unfolding numberPut
+    length-put = either (leb (at + w) (length b))
+      where
+        either : (t : Bool) → length (cond t (sets b at (justified w n)) b) ≡ length b
+        either true = length-sets b at (justified w n)
+        either false = refl

@@ -1,4 +1,4 @@
--- The line that is written for given fields (document 01, "Order file").
+-- The line that is written for given fields, and a number put into its columns (document 01, "Order file").
 use Prim.Native.Nat.{ℕ, _+_, _^_}
 use mathlib.Core.List.{List, [], _∷_, _++_}
 use mathlib.Core.Bool.{Bool, true, false, cond, _&&_}

@@ -1,4 +1,4 @@
-// The line for given fields, written into a lent buffer.
+// The line for given fields, and a number in its columns, written into a lent buffer.
 ghost use mathlib.Core.Path.{_≡_};
 ghost use Prim.Native.Nat.{_+_, _≤_, _<_};
 ghost use lib.ListN.{length};

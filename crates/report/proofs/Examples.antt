@@ -1,30 +1,37 @@
--- The statements of the paper's file and of the empty one: what they print by the loads' own theorems, the digits by computation.
+-- The statements of the paper's file, of the empty one and of an E line alone: what they print by the loads' own theorems, the digits by computation.
 use Prim.Native.Nat.{ℕ}
-use mathlib.Core.Path.{_≡_, ap}
+use mathlib.Core.Path.{_≡_, refl, ap, _∙_}
 use mathlib.Core.List.{List, [], _++_}
 use Rattle.book.specs.declared.Account.{Account}
 use Rattle.book.specs.declared.Position.{Position}
-use Rattle.book.specs.Book.{held}
+use Rattle.book.specs.Book.{emptyBook, held}
 use Rattle.book.specs.Outcome.{Totals, answered}
 use Rattle.book.specs.Read.{totalsOf}
 use Rattle.file.specs.Examples.{paperFile, loaded}
 use Rattle.file.specs.Load.{Outcome}
+use Rattle.file.specs.Loads.{endAlone}
 use Rattle.file.proofs.Examples as file
+use Rattle.file.proofs.LoadFaults.{end-alone}
 use Rattle.lines.specs.Field.{padded, justified}
 use Rattle.report.specs.Statement.{totalsLine, positionLine, positionLines, refusalLine, bookPrinted, printed, statementOf}
 use Rattle.report.specs.Statements.{paperStatement, emptyFileStatement}
+use Rattle.report.proofs.StatementLengths.{empty-prints-nothing}
 
-accepted-printed : (o : Outcome) (today : ℕ) (a : Account) (ps : List Position) → o .number ≡ 0
+figures-printed : (o : Outcome) (today : ℕ) (a : Account) (ps : List Position) → o .number ≡ 0
     → totalsOf (o .book) ≡ answered {A = Totals} (record { today = today; account = a }) → held (o .book) ≡ ps
     → printed o ≡ totalsLine today a ++ positionLines ps
 unfolding printed bookPrinted
-accepted-printed o today a ps number totals positions = rw (number, totals, positions)
+figures-printed o today a ps number totals positions = rw (number, totals, positions)
 
 pub paper-printed : statementOf paperFile ≡ paperStatement
 unfolding statementOf totalsLine positionLine positionLines justified padded
 paper-printed =
-    accepted-printed (loaded paperFile) _ _ _ (file.examples .paper-accepted) (file.examples .paper-totals) (file.examples .paper-positions)
+    figures-printed (loaded paperFile) _ _ _ (file.examples .paper-accepted) (file.examples .paper-totals) (file.examples .paper-positions)
 
 pub empty-file-printed : statementOf [] ≡ emptyFileStatement
 unfolding statementOf printed refusalLine justified padded
 empty-file-printed = ap printed (file.examples .empty-file)
+
+pub end-alone-printed : statementOf endAlone ≡ []
+unfolding statementOf printed emptyBook
+end-alone-printed = ap printed (end-alone emptyBook) ∙ empty-prints-nothing emptyBook refl

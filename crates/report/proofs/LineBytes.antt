@@ -1,29 +1,25 @@
 -- The stores that make a statement's lines.
 use mathlib.Core.Path.{_≡_, refl, sym, ap, _∙_}
 use mathlib.Core.List.{List, [], _∷_, _++_}
-use Prim.Native.Nat.{ℕ, suc, _+_, _*_, _≤_}
+use Prim.Native.Nat.{ℕ, suc, _+_, _≤_}
 use native.Mathlib.Numerals.{add-one}
 use native.Mathlib.Omega.{arith}
 use lib.Dec.{leb}
-use lib.ListN.{length, set, length-append, length-set}
+use lib.ListN.{length, set, length-set}
 use lib.Seq.{sets, length-sets}
 use Rattle.book.specs.declared.Account.{Account}
 use Rattle.book.specs.declared.Position.{Position}
 use Rattle.book.proofs.Cases.{choice}
 use Rattle.lines.specs.Field.{justified}
 use Rattle.lines.specs.Write.{numberPut}
-use Rattle.lines.proofs.NumberPut.{put-within}
+use Rattle.lines.proofs.NumberPut.{put-within, length-put}
 use Rattle.lines.proofs.Stores.{sets-append, length-justified}
-use Rattle.report.specs.Statement.{totalsLine, positionLine, positionLines, refusalLine}
+use Rattle.report.specs.Statement.{totalsLine, positionLine, refusalLine}
 
 -- A number put into a buffer
 
 module _ (b : List ℕ) (at w n : ℕ) where
-  pub length-put : length (numberPut b at w n) ≡ length b
-  unfolding numberPut
-  length-put = choice (λ (l : List ℕ). length l ≡ length b) (leb (at + w) (length b)) (λ _. length-sets b at (justified w n)) (λ _. refl)
-
-  -- and a run behind it, at a place that is known
+  -- a run behind it, at a place that is known
   put-then : (ys : List ℕ) (k : ℕ) → at + w ≤ length b → at + w ≡ k → sets (numberPut b at w n) k ys ≡ sets b at (justified w n ++ ys)
   put-then ys k h e =
       ap (λ (l : List ℕ). sets l k ys) (put-within b at w n h)

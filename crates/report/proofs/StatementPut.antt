@@ -16,11 +16,10 @@ use Rattle.book.specs.declared.TotalsAnswer.{TotalsAnswer}
 use Rattle.book.specs.declared.TotalsAnswer.the-variants as totals-answer
 use Rattle.book.specs.Book.{emptyBook, held}
 use Rattle.book.specs.Outcome.{Answer, Totals, totalsStated}
-use Rattle.book.specs.Reached.{Reached}
 use Rattle.book.specs.Read.{totalsOf}
 use Rattle.book.proofs.Accepted.{no-refusal-is-0}
 use Rattle.book.proofs.Cases.{by-test}
-use Rattle.book.proofs.Readings.{totals-unopened, totals-open}
+use Rattle.book.proofs.Readings.{totals-unopened}
 use Rattle.lines.specs.Line.{malformedNumber}
 use Rattle.lines.proofs.Stores.{sets-append}
 use Rattle.file.specs.declared.LoadAnswer.{LoadAnswer}

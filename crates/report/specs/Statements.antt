@@ -2,7 +2,7 @@
 use Prim.Native.Nat.{ℕ, _*_, _+_, _^_, _≤_, _<_}
 use mathlib.Core.Path.{_≡_}
 use mathlib.Core.Bool.{true, false}
-use mathlib.Core.List.{List, [], _∷_, _++_}
+use mathlib.Core.List.{List, [], _∷_}
 use lib.ListN.{length, getD}
 use Rattle.book.specs.declared.Account.{Account}
 use Rattle.book.specs.declared.Book.{Book}
@@ -11,6 +11,7 @@ use Rattle.book.specs.Book.{held}
 use Rattle.book.specs.Outcome.{noPosition}
 use Rattle.book.specs.Reached.{Reached}
 use Rattle.file.specs.Examples.{paperFile}
+use Rattle.file.specs.Loads.{endAlone}
 use Rattle.report.specs.Statement.{totalsLine, positionLine, refusalLine, bookPrinted, statementOf}
 
 -- figures that their columns hold
@@ -67,3 +68,5 @@ pub record Statements : Type 0 where
   -- document 01's example, and the empty file
   pub paper-printed : statementOf paperFile ≡ paperStatement
   pub empty-file-printed : statementOf [] ≡ emptyFileStatement
+  -- "An accepted file that leaves the book empty prints nothing.": an E line alone with count 0
+  pub end-alone-printed : statementOf endAlone ≡ []

@@ -1,6 +1,6 @@
 -- The theorems and the worked examples.
 use Rattle.report.specs.Statements.{Statements}
-use Rattle.report.proofs.Examples.{paper-printed, empty-file-printed}
+use Rattle.report.proofs.Examples.{paper-printed, empty-file-printed, end-alone-printed}
 use Rattle.report.proofs.FiguresFit.{totals-fit, positions-fit}
 use Rattle.report.proofs.StatementLengths.{totals-length, position-length, refusal-length, book-length, statement-fits, empty-prints-nothing}
 use Rattle.report.proofs.theorems.Statement.{statement}
@@ -19,6 +19,7 @@ statements =
       positions-fit = positions-fit;
       paper-printed = paper-printed;
       empty-file-printed = empty-file-printed;
+      end-alone-printed = end-alone-printed;
     }
 
 returns : tie.Need-returns

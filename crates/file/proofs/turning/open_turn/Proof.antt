@@ -1,7 +1,7 @@
 -- The F lines gathered, and Open with their lists.
 use borrow.Author.Needs.{needs}
 use native.Mathlib.Omega.{arith}
-use mathlib.Core.Path.{_≡_, sym, ap, _∙_}
+use mathlib.Core.Path.{sym}
 use lib.Seq.{length-take-le}
 use Rattle.book.proofs.Callers.{open-reached}
 use Rattle.file.proofs.Openings.{gather-stops, opens-accepted, opens-refused}

@@ -1,9 +1,7 @@
 -- The tests say whether the columns are there.
 use borrow.Author.Needs.{needs}
 use native.Mathlib.Omega.{arith}
-use mathlib.Core.Path.{sym, ap, subst, _∙_}
-use lib.ListN.{length}
-use lib.Seq.{length-sets}
+use mathlib.Core.Path.{sym, ap, _∙_}
 use Rattle.lines.specs.Write.{numberPut}
 use Rattle.lines.proofs.NumberPut.{put-nowhere, put-beyond, put-within}
 use Rattle.lines.proofs.write.put_number.Statement.{statement}
