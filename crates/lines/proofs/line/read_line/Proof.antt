@@ -2,6 +2,7 @@
 use borrow.Author.Needs.{needs}
 use borrow.Author.Tests.{eq-eqb, ne-eqb}
 use native.Mathlib.Omega.{arith}
+use lib.ListN.{length, getD}
 use Rattle.lines.specs.Line.{columnsOf, lineOf}
 use Rattle.lines.proofs.FieldBounds.{field-below-wider}
 use Rattle.lines.proofs.line.read_line.Statement.{statement}
@@ -9,14 +10,16 @@ use Rattle.lines.proofs.line.read_line.Tie as tie
 
 returns : tie.Need-returns
 unfolding lineOf
-returns c = simp (ne-eqb _ _ (c .if1 .taken))
+returns c = simp (ne-eqb (length (c .before .before .args .line .now)) 43 (λ e. omega arith))
 
 shared-slice-read-if2 : tie.Need-shared-slice-read-if2
 shared-slice-read-if2 c = search needs
 
 returns-2 : tie.Need-returns-2
 unfolding lineOf
-returns-2 c = simp (eq-eqb _ _ (c .before .before .if1 .left), ne-eqb _ _ (c .if2 .taken))
+returns-2 c =
+    let s = c .before .before .before .before .args .line .now in
+    simp (eq-eqb (length s) 43 (omega arith), ne-eqb (getD s 42 0) 10 (λ e. omega arith))
 
 shared-slice-read-letter : tie.Need-shared-slice-read-letter
 shared-slice-read-letter c = search needs
