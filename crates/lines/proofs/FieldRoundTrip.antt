@@ -37,11 +37,11 @@ field-columns s at (suc w) h =
     ∙ sym (ap (columns Blank) (part-suc s at w h) ∙ columns-snoc Blank (take w (drop at s)) (getD s (at + w) 0))
 
 -- the field of the columns of `padded`
-abbrev shown : ℕ → Field
+abbrev pub shown : ℕ → Field
 shown m = cond (eqb m 0) Blank (Number m)
 
 -- a digit after `shown q`
-step-digit : (q d : ℕ) → d < 10 → stepOf (shown q) (48 + d) ≡ Number (q * 10 + d)
+pub step-digit : (q d : ℕ) → d < 10 → stepOf (shown q) (48 + d) ≡ Number (q * 10 + d)
 step-digit q d h = go (eqb q 0) refl
   where
     dig : (n : ℕ) → cond (isDigit (48 + d)) (Number n) Bad ≡ Number n

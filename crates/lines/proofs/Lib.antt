@@ -2,9 +2,11 @@
 pub mod FieldBounds
 pub mod Stores
 pub mod FieldRoundTrip
+pub mod FieldReading
 pub mod LineStores
 pub mod LineRoundTrip
 pub mod LinePositions
 pub mod LineParts
+pub mod LineColumns
 pub mod Examples
 pub mod NumberPut

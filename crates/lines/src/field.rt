@@ -1,49 +1,59 @@
 // A number field of fixed width, read column by column from the left and written from the right.
 ghost use mathlib.Core.Path.{_≡_};
-ghost use Prim.Native.Nat.{_+_, _≤_, _<_, _^_};
-ghost use lib.ListN.{length};
+ghost use Prim.Native.Nat.{_+_, _≤_, _<_};
+ghost use lib.ListN.{length, getD};
 ghost use lib.Seq.{sets};
-ghost use Rattle.lines.specs.Field.{stepOf, fieldAt, Below, symbolOf, padded, justified};
+ghost use Rattle.lines.specs.declared.field.Field.the-variants.{Blank};
+ghost use Rattle.lines.specs.Field.{space, fieldAt, symbolOf, padded, justified};
 
-// What the columns read so far are.
+// What a field's columns are.
 pub enum Field {
     Blank,
     Number(u64),
     Bad,
 }
 
-// The field with one column more on its right.
-pub fn step(f: Field, c: u8) -> Field
-    requires { ⌜ Below f (10 ^ 18) ⌝ }
-    ensures { λ r. ⌜ r ≡ stepOf f c ⌝ }
+// How many of the `width` columns from `at` on are spaces, before the first other byte.
+pub fn blanks(s: &[u8], at: usize, width: usize) -> usize
+    requires { ⌜ at + width ≤ length (now s) ⌝ }
+    ensures { λ r. ⌜ (r ≤ width) × (fieldAt (now (s .entry)) at r ≡ Blank) × (r < width → getD (now (s .entry)) (at + r) 0 ≡ space → ⊥) ⌝ }
 {
-    match f {
-        Field::Blank => {
-            if c == b' ' {
-                return Field::Blank;
-            }
-            if c < b'0' {
-                return Field::Bad;
-            }
-            if b'9' < c {
-                return Field::Bad;
-            }
-            Field::Number((c - b'0') as u64)
+    let mut i = 0;
+    while i < width {
+        if s[at + i] != b' ' {
+            return i;
         }
-        Field::Number(n) => {
-            if n == 0 {
-                return Field::Bad;
-            }
-            if c < b'0' {
-                return Field::Bad;
-            }
-            if b'9' < c {
-                return Field::Bad;
-            }
-            Field::Number(n * 10 + (c - b'0') as u64)
-        }
-        Field::Bad => Field::Bad,
+        i += 1;
     }
+    i
+}
+
+// The field of `width` columns from `at` on whose first `from` are spaces and the next one isn't: digits up to its end, without a leading 0.
+pub fn digits(s: &[u8], at: usize, from: usize, width: usize) -> Field
+    requires { ⌜ (at + width ≤ length (now s)) × (width ≤ 18) × (from < width) ⌝ }
+    requires { ⌜ (fieldAt (now s) at from ≡ Blank) × (getD (now s) (at + from) 0 ≡ space → ⊥) ⌝ }
+    ensures { λ r. ⌜ r ≡ fieldAt (now (s .entry)) at width ⌝ }
+{
+    if s[at + from] == b'0' {
+        if from + 1 < width {
+            return Field::Bad;
+        }
+        return Field::Number(0);
+    }
+    let mut n = 0;
+    let mut i = from;
+    while i < width {
+        let c = s[at + i];
+        if c < b'0' {
+            return Field::Bad;
+        }
+        if b'9' < c {
+            return Field::Bad;
+        }
+        n = n * 10 + (c - b'0') as u64;
+        i += 1;
+    }
+    Field::Number(n)
 }
 
 // The field of `width` columns from `at` on.
@@ -51,14 +61,11 @@ pub fn read_field(s: &[u8], at: usize, width: usize) -> Field
     requires { ⌜ (at + width ≤ length (now s)) × (width ≤ 18) ⌝ }
     ensures { λ r. ⌜ r ≡ fieldAt (now (s .entry)) at width ⌝ }
 {
-    let mut f = Field::Blank;
-    let mut i = 0;
-    while i < width {
-        let c = s[at + i];
-        f = step(f, c);
-        i += 1;
+    let from = blanks(s, at, width);
+    if from == width {
+        return Field::Blank;
     }
-    f
+    digits(s, at, from, width)
 }
 
 // The last digit of m, or a space where m is 0: a column left of the last one.

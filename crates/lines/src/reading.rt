@@ -6,22 +6,39 @@ use crate::Moved;
 use crate::ReadAnswer;
 use crate::Reader;
 use crate::Step;
+use crate::line::LINE_BYTES;
 use crate::line::read_line;
 use crate::position::line_end;
+
+// The line at a position, read before its end is known: no other length is well-formed, and no column of a well-formed line is a line feed.
+pub fn line_at(file: &[u8], at: usize) -> ReadAnswer
+    ensures { λ r. ⌜ readStated r ≡ lineOf (lineAt (now (file .entry)) at) ⌝ }
+{
+    if file.len() <= at {
+        return ReadAnswer::Malformed;
+    }
+    if file.len() - at < LINE_BYTES {
+        return ReadAnswer::Malformed;
+    }
+    let end = at + LINE_BYTES;
+    read_line(&file[at..end])
+}
 
 // The line at a position, and the position behind it. At the file's end the line is empty, so malformed, and the position stays.
 pub fn step_at(file: &[u8], at: usize) -> Step
     ensures { λ r. ⌜ (readStated (r .line) ≡ lineOf (lineAt (now (file .entry)) at)) × (r .at ≡ endOf (now (file .entry)) at) ⌝ }
 {
-    if file.len() <= at {
-        return Step {
-            line: ReadAnswer::Malformed,
-            at,
-        };
+    let line = line_at(file, at);
+    match line {
+        ReadAnswer::Read(_) => {
+            let end = at + LINE_BYTES;
+            Step { line, at: end }
+        }
+        ReadAnswer::Malformed => {
+            let end = line_end(file, at);
+            Step { line, at: end }
+        }
     }
-    let end = line_end(file, at);
-    let line = read_line(&file[at..end]);
-    Step { line, at: end }
 }
 
 // A reader at a position; a file's lines begin at 0.

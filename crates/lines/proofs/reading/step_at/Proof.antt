@@ -1,49 +1,42 @@
--- The part that is read is the line at the position; beyond the file's end that is empty, and malformed.
+-- A line that is read is 43 bytes long, and the end of another is searched.
 use borrow.Author.Needs.{needs}
 use native.Mathlib.Omega.{arith}
 use mathlib.Core.Path.{sym, ap, _∙_}
-use Rattle.lines.specs.Line.{lineOf}
-use Rattle.lines.proofs.LinePositions.{end-within, end-beyond, part-is-line, line-beyond}
+use Rattle.lines.specs.Line.{readStated}
+use Rattle.lines.proofs.LineColumns.{read-end}
 use Rattle.lines.proofs.reading.step_at.Statement.{statement}
 use Rattle.lines.proofs.reading.step_at.Tie as tie
 
-returns : tie.Need-returns
-unfolding lineOf
-returns c =
-    let a = c .before .before .args in
-    (sym (ap lineOf (line-beyond (a .file .now) (a .at) (c .if1 .taken))), sym (end-beyond (a .file .now) (a .at) (c .if1 .taken)))
+line-at-requires : tie.Need-line-at-requires
+line-at-requires c κs = search needs
+
+enum-told : tie.Need-enum-told
+enum-told c = search needs
+
+add-end : tie.Need-add-end
+add-end c =
+    let read = c .enum-told .given in
+    let line = c .before .before .line-at in
+    let a = c .before .before .before .before .args in
+    omega (arith, read-end (a .file .now) (a .at) (read .0 .0) (sym (line .ensures) ∙ ap readStated (read .1)) .1)
+
+enum-told-2 : tie.Need-enum-told-2
+enum-told-2 c = search needs
 
 line-end-requires : tie.Need-line-end-requires
 line-end-requires c κs = search needs
 
-sub-read-line : tie.Need-sub-read-line
-sub-read-line c = search needs
-
-part-read-line-start : tie.Need-part-read-line-start
-part-read-line-start c = search needs
-
-part-read-line-end : tie.Need-part-read-line-end
-part-read-line-end c =
-    let a = c .before .before .before .args in
-    rw (c .line-end .ensures) (end-within (a .file .now) (a .at) (omega arith))
-
-read-line-requires : tie.Need-read-line-requires
-read-line-requires c κs = search needs
+returns : tie.Need-returns
+returns c =
+    let read = c .enum-told .given in
+    let line = c .before .before .line-at in
+    let a = c .before .before .before .before .args in
+    (line .ensures, sym (read-end (a .file .now) (a .at) (read .0 .0) (sym (line .ensures) ∙ ap readStated (read .1)) .0))
 
 returns-2 : tie.Need-returns-2
-returns-2 c =
-    let a = c .before .before .before .before .before .args in
-    let e = c .before .before .line-end in
-    (c .read-line .ensures ∙ ap lineOf (part-is-line (a .file .now) (a .at) (e .result) (e .ensures)), e .ensures)
+returns-2 c = search needs
 
 pub step-at-spec : {M : Type 1} → statement M
 step-at-spec =
     tie.close
-    (tie.spec
-    returns
-    line-end-requires
-    sub-read-line
-    part-read-line-start
-    part-read-line-end
-    read-line-requires
-    returns-2)
+    (tie.spec line-at-requires enum-told add-end enum-told-2 line-end-requires returns returns-2)
