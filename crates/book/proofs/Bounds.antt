@@ -71,7 +71,7 @@ unfolding inForce
 in-force-priced annual [] day le p = le
 in-force-priced annual (o ∷ orders) day le p =
     in-force-priced (cond (leb (o .first .0) day) (o .annual) annual) orders day
-    (choice (λ (n : ℕ). n ≤ 4000) (leb (o .first .0) day) (λ _. p .0) (λ _. le)) (p .1)
+    (choice (λ (n : ℕ). n ≤ 4000) (leb (o .first .0) day) (λ _. p .0) (λ _. le)) (p .2)
 
 pub annual-most : (orders : List RateOrder) → Priced orders → (day : ℕ) → annualOn orders day ≤ 4000
 annual-most orders p day = in-force-priced 0 orders day (omega arith) p

@@ -2,13 +2,14 @@
 use Prim.Native.Nat.{ℕ, suc, _+_, _≤_, _<_}
 use native.Mathlib.Omega.{arith}
 use native.Mathlib.Numerals.{add-one}
-use mathlib.Core.Path.{_≡_, sym}
+use mathlib.Core.Path.{_≡_}
 use mathlib.Core.List.{List, _∷_, _++_}
 use lib.ListN.{length, take, drop, getD, set, length-append, length-drop}
 use lib.Seq.{drop-cons, take-suc, take-length, append-snoc, getD-at, set-at, length-take-le}
 use Rattle.book.specs.declared.Book.{Book}
 use Rattle.book.specs.declared.Position.{Position}
 use Rattle.book.specs.Book.{withHeld}
+use Rattle.book.specs.Computation.{withStored}
 
 -- the first i places filled from the list ts, the others as in the array
 abbrev pub filled : {A : Type 0} → List A → ℕ → List A → List A
@@ -40,29 +41,12 @@ length-filled ts l i le room = let e = length-take-le i ts le in rw (length-appe
 pub filled-all : {A : Type 0} (ts l : List A) (i : ℕ) → i ≡ length ts → filled ts i l ≡ ts ++ drop (length ts) l
 filled-all ts l i e = rw (e, take-length ts)
 
--- the book with another count and another array of positions
-abbrev pub withStored : Book → ℕ → List Position → Book
-withStored b count ps =
-    record {
-      opened = b .opened;
-      first = b .first;
-      term = b .term;
-      today = b .today;
-      recognised = b .recognised;
-      account = b .account;
-      count = count;
-      positions = ps;
-      settled = b .settled;
-      settlements = b .settlements;
-      rated = b .rated;
-      rates = b .rates;
-    }
+-- it is the book with other positions in use, where the places behind them stay as they were
+pub stored-held : (b : Book) (ts : List Position) (count : ℕ) (ps : List Position) → length ts ≡ count → ts ++ drop count (b .positions) ≡ ps
+    → withStored b count ps ≡ withHeld b ts
+unfolding withHeld
+stored-held b ts count ps e f = rw (← f, ← e)
 
 -- the book with another array of positions
 abbrev pub withArray : Book → List Position → Book
 withArray b ps = withStored b (b .count) ps
-
--- as many positions as before, all of them replaced
-pub all-replaced : (b : Book) (ts : List Position) (i : ℕ) → i ≡ length ts → length ts ≡ b .count → withArray b (filled ts i (b .positions)) ≡ withHeld b ts
-unfolding withHeld
-all-replaced b ts i e n = rw (filled-all ts (b .positions) i e, sym n)

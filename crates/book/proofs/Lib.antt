@@ -13,7 +13,6 @@ pub mod Turns
 pub mod ClosedForm
 pub mod Bounds
 pub mod Segments
-pub mod Replaced
 pub mod DaysHeld
 pub mod Accepted
 pub mod OpenKept

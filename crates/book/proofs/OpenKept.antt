@@ -62,7 +62,7 @@ module _ (b : Book) (h : Sound b) (first : ℕ) (term : Day) (annual : ℕ) (cen
           bounded = bounded-opening (cents .0) (right .cents-most);
           principal-whole = omega arith;
           rates-most = omega arith;
-          priced = rw rates-new (right .annual-most, tt);
+          priced = rw rates-new (right .annual-most, refl, tt);
           from-start = rw rates-new (refl, tt);
           settlements-most = omega arith;
           timely = omega arith;

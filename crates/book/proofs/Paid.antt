@@ -2,7 +2,6 @@
 use Prim.Native.Nat.{ℕ, zero, suc, _+_, _≤_, _<_}
 use native.Mathlib.Omega.{arith}
 use mathlib.Core.Path.{_≡_, refl, sym, ap, _∙_}
-use mathlib.Core.Bool.{true}
 use mathlib.Core.List.{List, [], _∷_}
 use lib.ListN.{length, getD, take, length-map}
 use lib.Seq.{take-append-seam}
@@ -15,11 +14,10 @@ use Rattle.apportionment.proofs.Laws.{laws}
 use Rattle.apportionment.proofs.Sums.{sum-none, sum-suc, sum-prefix}
 use Rattle.book.specs.declared.Book.{Book}
 use Rattle.book.specs.declared.Position.{Position}
-use Rattle.book.specs.Advance.{lastSettled}
 use Rattle.book.specs.Book.{held, fresh, withHeld, withAccount, withSettlement}
 use Rattle.book.specs.Positions.{paidPosition, paidFrom, unitDays, shares, receipts, holders, total}
-use Rattle.book.specs.Settle.{paidOut, settledBook}
-use Rattle.book.specs.Sound.{OpenSound, Sound}
+use Rattle.book.specs.Settle.{settledBook}
+use Rattle.book.specs.Sound.{OpenSound}
 use Rattle.book.proofs.Cases.{by-order}
 use Rattle.book.proofs.ChangedBook.{Roomy, length-held}
 use Rattle.book.proofs.ListTotals.{total-most-of, sum-first, weight-total}
@@ -86,44 +84,35 @@ pub part-within : (m : ℕ) (us : List ℕ) → 0 < totalWeight us → (k : ℕ)
 part-within m us some k lt =
     omega (arith, laws m us some .parts-total, sum-suc k (part m us), sum-prefix (k + 1) (length us) (part m us) (omega arith))
 
--- Those of a settlement of m cents by the weights ws, which begin with the unit-days
-module _ (b : Book) (sound : Sound b) (is-open : b .opened ≡ true) (since : lastSettled b < b .today .0) where
-  known : OpenSound b
-  known = sound .when-open is-open
+-- Those of m cents by the weights ws, which begin with the unit-days of the positions ps
+module _ (n : ℕ) (some : 0 < n) (few : n ≤ 64) (ps : List Position) (as-many : length ps ≡ n)
+    (days-some : 0 < total (unitDays ps)) (days-most : total (unitDays ps) ≤ 92000000)
+    (m : ℕ) (small : m ≤ 100000000000) (ws : List ℕ) (same : take n ws ≡ unitDays ps) where
+  weights-some : 0 < totalWeight (unitDays ps)
+  weights-some = omega (arith, weight-total (unitDays ps))
 
-  room : Roomy b
-  room = omega (arith, sound .room-positions, known .positions-most)
+  weights-most : totalWeight (unitDays ps) ≤ 92000000
+  weights-most = omega (arith, weight-total (unitDays ps))
 
-  -- a day at least has passed, and 92 at most
-  weights-some : 0 < totalWeight (unitDays (held b))
-  weights-some = omega (arith, known, weight-total (unitDays (held b)))
+  parts-are : apportioned m ws n .parts ≡ padded n (part m (unitDays ps))
+  parts-are =
+      ap (λ (r : Apportioned). r .parts) (sym (divides m ws n (λ e. omega arith) few small (rw same weights-some) (rw same weights-most)))
+      ∙ ap (λ us. padded n (part m us)) same
 
-  weights-most : totalWeight (unitDays (held b)) ≤ 92000000
-  weights-most = omega (arith, known, weight-total (unitDays (held b)))
+  parts-at : (k : ℕ) → k < n → getD (apportioned m ws n .parts) k 0 ≡ part m (unitDays ps) k
+  parts-at k lt = rw parts-are (padded-at n (part m (unitDays ps)) k lt few)
 
-  module _ (m : ℕ) (small : m ≤ 100000000000) (ws : List ℕ) (same : take (b .count) ws ≡ unitDays (held b)) where
-    parts-are : apportioned m ws (b .count) .parts ≡ padded (b .count) (part m (unitDays (held b)))
-    parts-are =
-        ap (λ (r : Apportioned). r .parts)
-        (sym (divides m ws (b .count) (λ e. omega (arith, known .positions-some)) (known .positions-most) small (rw same weights-some) (rw same weights-most)))
-        ∙ ap (λ us. padded (b .count) (part m us)) same
+  pub parts-most : (k : ℕ) → getD (apportioned m ws n .parts) k 0 ≤ 100000000001
+  parts-most k =
+      let e : length (unitDays ps) ≡ n = length-map ps (λ (p : Position). p .«unit_days») ∙ as-many in
+      by-order k n
+      (λ lt. omega (arith, parts-at k lt, part-within m (unitDays ps) weights-some k (omega arith)))
+      (λ ge. rw parts-are (omega (arith, padded-behind n (part m (unitDays ps)) k ge)))
 
-    pub parts-at : (k : ℕ) → k < b .count → getD (apportioned m ws (b .count) .parts) k 0 ≡ part m (unitDays (held b)) k
-    parts-at k lt = rw parts-are (padded-at (b .count) (part m (unitDays (held b))) k lt (known .positions-most))
-
-    pub parts-most : (k : ℕ) → getD (apportioned m ws (b .count) .parts) k 0 ≤ 100000000001
-    parts-most k =
-        let n : length (unitDays (held b)) ≡ b .count = length-map (held b) (λ (p : Position). p .«unit_days») ∙ length-held b room in
-        by-order k (b .count)
-        (λ lt. omega (arith, parts-at k lt, part-within m (unitDays (held b)) weights-some k (omega arith)))
-        (λ ge. rw parts-are (omega (arith, padded-behind (b .count) (part m (unitDays (held b))) k ge)))
-
-    -- the positions paid by them
-    pub paid-by-parts : withHeld b (paidFrom (λ k. getD (apportioned m ws (b .count) .parts) k 0) 0 (held b)) ≡ paidOut b m
-    paid-by-parts =
-        ap (withHeld b)
-        (paid-same (λ k. getD (apportioned m ws (b .count) .parts) k 0) (part m (unitDays (held b))) (held b)
-        (λ k lt. parts-at k (omega (arith, length-held b room))))
+  -- the positions paid by them
+  pub paid-by-parts : paidFrom (λ k. getD (apportioned m ws n .parts) k 0) 0 ps ≡ paidFrom (part m (unitDays ps)) 0 ps
+  paid-by-parts =
+      paid-same (λ k. getD (apportioned m ws n .parts) k 0) (part m (unitDays ps)) ps (λ k lt. parts-at k (omega arith))
 
 -- The book after a settlement of m cents
 

@@ -1,7 +1,7 @@
 -- Rate keeps a book sound.
 use Prim.Native.Nat.{ℕ, _≤_}
 use native.Mathlib.Omega.{arith}
-use mathlib.Core.Path.{_≡_}
+use mathlib.Core.Path.{_≡_, refl}
 use lib.ListN.{length, drop, length-append, length-drop}
 use Rattle.book.specs.declared.Book.{Book}
 use Rattle.book.specs.declared.RateOrder.{RateOrder}
@@ -30,7 +30,7 @@ module _ (b : Book) (h : Sound b) (date annual : ℕ) (right : RateRight b date 
   few = omega (arith, length-with order (ratesOf b), right .place-free)
 
   priced : Priced (ratesAfter b order)
-  priced = priced-with order (ratesOf b) (right .annual-most) (was .priced)
+  priced = priced-with order (ratesOf b) (right .annual-most) refl (was .priced)
 
   open-revised : OpenSound (revisedBook b order)
   unfolding withRates

@@ -9,6 +9,7 @@ use borrow.Author.Tests.{ltb-true, ltb-false, le-ltb}
 use lib.Dec.{ltb}
 use lib.ListN.{length, take, drop, set, length-append}
 use lib.Seq.{take-at, take-take, set-split, append-snoc}
+use Rattle.rates.specs.Rate.{dailyOf}
 use Rattle.book.specs.declared.RateOrder.{RateOrder}
 use Rattle.book.specs.Computation.{Priced, Rising, FromStart}
 use Rattle.book.specs.Rate.{startingBefore, withRate}
@@ -83,14 +84,14 @@ module _ (rates : List RateOrder) (rated : ℕ) (o : RateOrder) (today : ℕ) (h
 
 -- What an order keeps of the stored rates
 
-pub priced-with : (o : RateOrder) (os : List RateOrder) → o .annual ≤ 4000 → Priced os → Priced (withRate o os)
+pub priced-with : (o : RateOrder) (os : List RateOrder) → o .annual ≤ 4000 → o .daily ≡ dailyOf (o .annual) → Priced os → Priced (withRate o os)
 unfolding startingBefore
-priced-with o [] le p = (le, tt)
-priced-with o (x ∷ os) le p = go (ltb (x .first .0) (o .first .0)) (priced-with o os le (p .1))
+priced-with o [] le d p = (le, d, tt)
+priced-with o (x ∷ os) le d p = go (ltb (x .first .0) (o .first .0)) (priced-with o os le d (p .2))
   where
     go : (b : Bool) → Priced (withRate o os)
         → Priced (cond b (x ∷ startingBefore (o .first .0) os) (startingBefore (o .first .0) os) ++ (o ∷ []))
-    go true ih = (p .0, ih)
+    go true ih = (p .0, p .1, ih)
     go false ih = ih
 
 module _ (o : RateOrder) (today : ℕ) (until : o .first .0 ≤ today) where

@@ -3,30 +3,26 @@ use Prim.Native.Nat.{ℕ, _+_, _-_, _≤_, _<_}
 use native.Mathlib.Omega.{arith}
 use mathlib.Core.Path.{_≡_, refl, sym, ap, _∙_}
 use mathlib.Core.Bool.{true, false, not}
-use mathlib.Core.List.{List, [], _∷_, _++_}
+use mathlib.Core.List.{[], _∷_, _++_}
 use borrow.Author.Tests.{eq-eqb, ne-eqb, lt-ltb, le-ltb, le-leb, lt-leb}
-use lib.ListN.{length, drop, getD, set, length-append, length-set}
+use lib.ListN.{length, getD, set, length-append, length-set}
 use lib.Seq.{getD-take, getD-set-other}
 use Rattle.book.specs.declared.Book.{Book}
 use Rattle.book.specs.declared.Parts.{Parts}
 use Rattle.book.specs.declared.Position.{Position}
 use Rattle.book.specs.declared.Refusal.the-variants as refusal
 use Rattle.book.specs.Book.{held, fresh, withHeld}
+use Rattle.book.specs.Computation.{withStored}
 use Rattle.book.specs.Outcome.{noParts, noPosition, accept, refuse}
 use Rattle.book.specs.Positions.{isHolder, place, present, shareOf, change, less, more}
 use Rattle.book.specs.Sound.{Sound, OpenSound}
 use Rattle.book.specs.Transfer.{moved, transferred}
-use Rattle.book.proofs.Filled.{withStored}
+use Rattle.book.proofs.Filled.{stored-held}
 use Rattle.book.proofs.Assigned.{assigned}
 use Rattle.book.proofs.Changes.{change-at, length-change, place-change, two-stored, next-stored}
 use Rattle.book.proofs.ChangedBook.{length-held}
 use Rattle.book.proofs.Places.{share-at, holder-at}
 use Rattle.book.proofs.ListTotals.{total-most-of}
-
-stored-held : (b : Book) (l : List Position) (count : ℕ) (ps : List Position) → length l ≡ count → l ++ drop count (b .positions) ≡ ps
-    → withStored b count ps ≡ withHeld b l
-unfolding withHeld
-stored-held b l count ps e f = rw (← f, ← e)
 
 -- Between two holders, the cedent in the book at a place
 

@@ -3,6 +3,7 @@ use Prim.Native.Nat.{ℕ, _+_}
 use mathlib.Core.Bool.{false}
 use mathlib.Core.List.{List, _++_}
 use lib.ListN.{length, take, drop, set, replicate}
+use Rattle.rates.specs.Rate.{dailyOf}
 use Rattle.book.specs.declared.Account.{Account}
 use Rattle.book.specs.declared.Book.{Book}
 use Rattle.book.specs.declared.Position.{Position}
@@ -27,9 +28,13 @@ fresh h s = record { holder = h; share = record { 0 = s }; «unit_days» = 0; re
 abbrev pub noSettlement : Settlement
 noSettlement = record { day = record { 0 = 0 }; cents = record { 0 = 0 } }
 
--- a rate from a day on
+-- a rate from a day on, and its daily rate
 abbrev pub orderFrom : ℕ → ℕ → RateOrder
-orderFrom day annual = record { first = record { 0 = day }; annual = annual }
+orderFrom day annual = record { first = record { 0 = day }; annual = annual; daily = dailyOf annual }
+
+-- no rate
+abbrev pub noOrder : RateOrder
+noOrder = record { first = record { 0 = 0 }; annual = 0; daily = 0 }
 
 -- an account of so many cents outstanding, everything else 0
 unfoldable pub opening : ℕ → Account
@@ -57,7 +62,7 @@ emptyBook =
       settled = 0;
       settlements = replicate 240 noSettlement;
       rated = 0;
-      rates = replicate 16 (orderFrom 0 0);
+      rates = replicate 16 noOrder;
     }
 
 -- other positions in use; the array's places behind them stay as they were

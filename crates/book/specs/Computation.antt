@@ -3,16 +3,22 @@ use Prim.Native.Nat.{ℕ, zero, suc, _+_, _*_, _≤_, _<_}
 use mathlib.Core.Path.{_≡_}
 use mathlib.Core.Bool.{cond}
 use mathlib.Core.List.{List, [], _∷_}
-use lib.Dec.{leb, ltb}
+use lib.ListN.{getD}
+use Rattle.rates.specs.Rate.{dailyOf}
 use Rattle.book.specs.declared.Account.{Account}
+use Rattle.book.specs.declared.Book.{Book}
+use Rattle.book.specs.declared.Parts.{Parts}
 use Rattle.book.specs.declared.Position.{Position}
 use Rattle.book.specs.declared.RateOrder.{RateOrder}
 use Rattle.book.specs.declared.Settlement.{Settlement}
 use Rattle.book.specs.declared.positions.Found.{Found}
 use Rattle.book.specs.declared.positions.Found.the-variants.{At, Nothing}
+use Rattle.book.specs.declared.transferring.Moving.{Moving}
 use Rattle.book.specs.declared.rating.Replayed.{Replayed}
 use Rattle.book.specs.declared.rating.Replayed.the-variants.{Standing, Overpaid}
 use Rattle.book.specs.Accrual.{accruedDay}
+use Rattle.book.specs.Book.{noOrder}
+use Rattle.book.specs.Outcome.{Outcome, transferCase}
 use Rattle.book.specs.Positions.{place, present}
 use Rattle.book.specs.Standing.{accountAt, overpaid}
 
@@ -26,6 +32,28 @@ foundIn ps h = cond (present h ps) (At (place h ps)) Nothing
 abbrev pub daysHeld : ℕ → Position → Position
 daysHeld n p =
     record { holder = p .holder; share = p .share; «unit_days» = p .«unit_days» + p .share .0 * n; received = p .received }
+
+-- the book with another count and another array of positions
+abbrev pub withStored : Book → ℕ → List Position → Book
+withStored b count ps =
+    record {
+      opened = b .opened;
+      first = b .first;
+      term = b .term;
+      today = b .today;
+      recognised = b .recognised;
+      account = b .account;
+      count = count;
+      positions = ps;
+      settled = b .settled;
+      settlements = b .settlements;
+      rated = b .rated;
+      rates = b .rates;
+    }
+
+-- Transfer: what is answered, and the book with the positions and their count that stand beside it
+abbrev pub movingStated : Book → Moving → Outcome Parts
+movingStated b m = record { answer = transferCase (m .answer); book = withStored b (m .count) (m .positions) }
 
 -- Interest
 
@@ -47,15 +75,10 @@ pub record Bounded (n : ℕ) (a : Account) : Type 0 where
 
 -- Orders and settlements
 
--- the first day after one on which an order begins, or the given end where none begins before it
-unfoldable pub nextChange : List RateOrder → ℕ → ℕ → ℕ
-nextChange [] day end = end
-nextChange (o ∷ os) day end = nextChange os day (cond (leb (o .first .0) day) end (cond (ltb (o .first .0) end) (o .first .0) end))
-
--- every stored rate is one that has a daily rate
+-- every stored rate is one that has a daily rate, and stands beside it
 abbrev pub Priced : List RateOrder → Type 0
 Priced [] = Unit {0}
-Priced (o ∷ os) = (o .annual ≤ 4000) × Priced os
+Priced (o ∷ os) = (o .annual ≤ 4000) × (o .daily ≡ dailyOf (o .annual)) × Priced os
 
 -- orders that follow one another by first day, all after one day and none after another
 abbrev pub Rising : ℕ → List RateOrder → ℕ → Type 0
@@ -66,6 +89,11 @@ Rising day (o ∷ os) today = (day < o .first .0) × (o .first .0 ≤ today) × 
 abbrev pub FromStart : List RateOrder → ℕ → Type 0
 FromStart [] today = ⊥
 FromStart (o ∷ os) today = (o .first .0 ≡ 0) × Rising 0 os today
+
+-- of n orders the one at a place holds on a day: it has begun, and the next begins no earlier
+abbrev pub Holding : ℕ → List RateOrder → (at day : ℕ) → Type 0
+Holding n orders at day =
+    (at < n) × (getD orders at noOrder .first .0 ≤ day) × (at + 1 < n → day ≤ getD orders (at + 1) noOrder .first .0)
 
 -- the settlements follow one another by day, all after one day and none after another
 abbrev pub Timely : ℕ → List Settlement → ℕ → Type 0

@@ -1,13 +1,11 @@
 // The account of a right: interest accrues by days, a settlement pays interest first.
 ghost use mathlib.Core.Path.{_≡_};
-ghost use mathlib.Core.Bool.{cond};
 ghost use Prim.Native.Nat.{_-_, _≤_, min};
-ghost use lib.Dec.{leb, ltb};
 ghost use lib.ListN.{take};
 ghost use Rattle.rates.specs.Rate.{dailyOf};
 ghost use Rattle.book.specs.Accrual.{paidOff, worth};
-ghost use Rattle.book.specs.Schedule.{annualOn, dailyOn};
-ghost use Rattle.book.specs.Computation.{accruedDays, elapsed, Bounded, nextChange, Priced};
+ghost use Rattle.book.specs.Schedule.{dailyOn};
+ghost use Rattle.book.specs.Computation.{accruedDays, elapsed, Bounded, Priced, FromStart, Holding};
 use crate::Account;
 use crate::Book;
 use crate::Cents;
@@ -75,81 +73,45 @@ pub fn pay(account: Account, cents: Cents) -> Account
     }
 }
 
-// The annual rate on a day with one order more.
-pub fn superseded(annual: u64, order: RateOrder, day: Day) -> u64
-    ensures { λ r. ⌜ r ≡ cond (leb (order .first .0) (day .0)) (order .annual) annual ⌝ }
-{
-    if order.first.0 <= day.0 {
-        order.annual
-    } else {
-        annual
-    }
+// The account on a day, and the place of an order that holds there.
+pub struct Elapsed {
+    pub account: Account,
+    pub at: usize,
 }
 
-// The next change after a day with one order more.
-pub fn sooner(end: Day, order: RateOrder, day: Day) -> Day
-    ensures { λ r. ⌜ r .0 ≡ cond (leb (order .first .0) (day .0)) (end .0) (cond (ltb (order .first .0) (end .0)) (order .first .0) (end .0)) ⌝ }
-{
-    let first = order.first;
-    if first.0 <= day.0 {
-        return end;
-    }
-    if first.0 < end.0 { first } else { end }
-}
-
-// The annual rate in force on a day.
-pub fn annual_on(rates: [RateOrder; Book::RATES], rated: usize, day: Day) -> u64
-    requires { ⌜ rated ≤ 16 ⌝ }
-    ensures { λ r. ⌜ r ≡ annualOn (take rated rates) (day .0) ⌝ }
-{
-    let mut annual: u64 = 0;
-    let mut j: usize = 0;
-    while j < rated {
-        let order = rates[j];
-        annual = superseded(annual, order, day);
-        j += 1;
-    }
-    annual
-}
-
-// The first day after `day` on which a rate begins, or `end`.
-pub fn next_change(rates: [RateOrder; Book::RATES], rated: usize, day: Day, end: Day) -> Day
-    requires { ⌜ rated ≤ 16 ⌝ }
-    ensures { λ r. ⌜ r .0 ≡ nextChange (take rated rates) (day .0) (end .0) ⌝ }
-{
-    let mut next = end;
-    let mut j: usize = 0;
-    while j < rated {
-        let order = rates[j];
-        next = sooner(next, order, day);
-        j += 1;
-    }
-    next
-}
-
-// The interest of the days from `from` up to `end`, rate by rate.
+// The interest of the days from `from` up to `end`, order by order; the order at `place` holds on `from`.
 pub fn elapse(
     account: Account,
     rates: [RateOrder; Book::RATES],
     rated: usize,
+    place: usize,
     from: Day,
     end: Day,
-) -> Account
+) -> Elapsed
     requires { ⌜ Bounded (from .0) account ⌝ }
     requires { ⌜ (from .0 ≤ end .0) × (end .0 ≤ 6000) ⌝ }
-    requires { ⌜ (rated ≤ 16) × Priced (take rated rates) ⌝ }
-    ensures { λ r. ⌜ r ≡ elapsed (dailyOn (take rated rates)) (from .0) (end .0 - from .0) account ⌝ }
+    requires { ⌜ (rated ≤ 16) × Priced (take rated rates) × FromStart (take rated rates) 6000 ⌝ }
+    requires { ⌜ Holding rated rates place (from .0) ⌝ }
+    ensures { λ r. ⌜ r .account ≡ elapsed (dailyOn (take rated rates)) (from .0) (end .0 - from .0) account ⌝ }
+    ensures { λ r. ⌜ Holding rated rates (r .at) (end .0) ⌝ }
 {
     let mut next = account;
+    let mut at = place;
     let mut day = from;
-    while day.0 < end.0 {
-        let annual = annual_on(rates, rated, day);
-        let daily = daily_rate(annual);
-        let change = next_change(rates, rated, day, end);
+    while at + 1 < rated && rates[at + 1].first.0 < end.0 {
+        let order = rates[at];
+        let later = rates[at + 1];
+        let change = later.first;
         let days = change.0 - day.0;
         let now = next;
-        next = accrue(now, daily, Day(days));
+        next = accrue(now, order.daily, Day(days));
         day = change;
+        at += 1;
     }
-    next
+    let order = rates[at];
+    let days = end.0 - day.0;
+    Elapsed {
+        account: accrue(next, order.daily, Day(days)),
+        at: at,
+    }
 }

@@ -46,10 +46,11 @@ pub struct Settlement {
     pub cents: Cents,
 }
 
-// An annual rate, in thousandths of a percent, from its first day on.
+// An annual rate, in thousandths of a percent, from its first day on; and its daily rate, looked up once.
 pub struct RateOrder {
     pub first: Day,
     pub annual: u64,
+    pub daily: u64,
 }
 
 // The money of a right: the fraction of a cent of interest due is in units of 1/10^10.
@@ -237,6 +238,7 @@ impl Book {
         let order = RateOrder {
             first: Day(0),
             annual: 0,
+            daily: 0,
         };
         let account = Account {
             outstanding: Cents(0),

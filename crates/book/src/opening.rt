@@ -16,6 +16,7 @@ use crate::Parts;
 use crate::Position;
 use crate::RateOrder;
 use crate::Refusal;
+use crate::accrual::daily_rate;
 use crate::positions::is_holder;
 
 fn refused(book: Book, refusal: Refusal) -> Opened
@@ -174,6 +175,7 @@ fn new_book(
     shares: &[u32],
 ) -> Book
     requires { ⌜ (length (now holders) ≡ length (now shares)) × (length (now holders) ≤ 64) ⌝ }
+    requires { ⌜ annual ≤ 4000 ⌝ }
     ensures { λ r. ⌜ r ≡ newBook first term annual cents (now (holders .entry)) (now (shares .entry)) ⌝ }
 {
     let account = Account {
@@ -183,6 +185,7 @@ fn new_book(
         principal_paid: Cents(0),
         interest_paid: Cents(0),
     };
+    let daily = daily_rate(annual);
     let mut next = place_holders(Book::empty(), holders, shares);
     next.opened = true;
     next.first = first;
@@ -192,6 +195,7 @@ fn new_book(
     next.rates[0] = RateOrder {
         first: Day(0),
         annual: annual,
+        daily: daily,
     };
     next.rated = 1;
     next

@@ -4,7 +4,8 @@ ghost use mathlib.Core.Bool.{true};
 ghost use Prim.Native.Nat.{_≤_, _<_};
 ghost use lib.ListN.{length, take};
 ghost use Rattle.book.specs.Book.{ratesOf};
-ghost use Rattle.book.specs.Computation.{replayed, Bounded, Priced, Timely};
+ghost use Rattle.rates.specs.Rate.{dailyOf};
+ghost use Rattle.book.specs.Computation.{replayed, Bounded, Priced, FromStart, Timely};
 ghost use Rattle.book.specs.Outcome.{answered, refuse, noChanges, rateCase, rateStated};
 ghost use Rattle.book.specs.Rate.{startingBefore, changesOf, revised, ratedFrom, rated};
 ghost use Rattle.book.specs.Reached.{Reached};
@@ -19,6 +20,7 @@ use crate::RateOrder;
 use crate::Rated;
 use crate::Refusal;
 use crate::Settlement;
+use crate::accrual::daily_rate;
 use crate::accrual::elapse;
 use crate::accrual::pay;
 use crate::advancing::count_of;
@@ -65,7 +67,7 @@ fn replay(
     today: Day,
 ) -> Replayed
     requires { ⌜ (recognised .0 ≤ 1000000000000) × (today .0 ≤ 6000) ⌝ }
-    requires { ⌜ (rated ≤ 16) × Priced (take rated rates) ⌝ }
+    requires { ⌜ (rated ≤ 16) × Priced (take rated rates) × FromStart (take rated rates) 6000 ⌝ }
     requires { ⌜ (settled ≤ 240) × Timely 0 (take settled settlements) (today .0) ⌝ }
     ensures { λ r. ⌜ r ≡ replayed (recognised .0) (take rated rates) (take settled settlements) (today .0) ⌝ }
 {
@@ -76,21 +78,27 @@ fn replay(
         principal_paid: Cents(0),
         interest_paid: Cents(0),
     };
+    // The order at place `at` holds on day `from`.
     let mut from = Day(0);
+    let mut at: usize = 0;
     let mut i: usize = 0;
     while i < settled {
         let settlement = settlements[i];
         let day = settlement.day;
         let cents = settlement.cents;
-        let before = elapse(account, rates, rated, from, day);
+        let passed = elapse(account, rates, rated, at, from, day);
+        let before = passed.account;
         if before.due.0 + before.outstanding.0 < cents.0 {
             return Replayed::Overpaid;
         }
         account = pay(before, cents);
         from = day;
+        at = passed.at;
         i += 1;
     }
-    Replayed::Standing(elapse(account, rates, rated, from, today))
+    let passed = elapse(account, rates, rated, at, from, today);
+    let standing = passed.account;
+    Replayed::Standing(standing)
 }
 
 // What is answered: after minus before.
@@ -111,7 +119,8 @@ fn changes(before: Account, after: Account) -> RateAnswer
 fn revise(book: Book, order: RateOrder) -> Rated
     requires { ⌜ Sound book ⌝ }
     requires { ⌜ book .opened ≡ true ⌝ }
-    requires { ⌜ (order .annual ≤ 4000) × (length (startingBefore (order .first .0) (ratesOf book)) < 16) ⌝ }
+    requires { ⌜ (order .annual ≤ 4000) × (order .daily ≡ dailyOf (order .annual)) × (order .first .0 ≤ book .today .0) ⌝ }
+    requires { ⌜ length (startingBefore (order .first .0) (ratesOf book)) < 16 ⌝ }
     ensures { λ r. ⌜ rateStated r ≡ revised book order ⌝ }
 {
     // The order replaces the stored rates from its first day on.
@@ -158,11 +167,13 @@ fn rate_from(book: Book, count: u32, annual: u64) -> Rated
     if Book::RATES <= count_before(rates, book.rated, day) {
         return refused(book, Refusal::BookFull);
     }
+    let daily = daily_rate(annual);
     revise(
         book,
         RateOrder {
             first: day,
             annual: annual,
+            daily: daily,
         },
     )
 }

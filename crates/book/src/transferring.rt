@@ -3,6 +3,7 @@ ghost use mathlib.Core.Path.{_≡_};
 ghost use mathlib.Core.Bool.{true};
 ghost use Prim.Native.Nat.{_<_};
 ghost use Rattle.book.specs.Book.{held};
+ghost use Rattle.book.specs.Computation.{movingStated};
 ghost use Rattle.book.specs.Outcome.{refuse, noParts, transferStated};
 ghost use Rattle.book.specs.Positions.{place};
 ghost use Rattle.book.specs.Reached.{Reached};
@@ -19,24 +20,36 @@ use crate::positions::Found;
 use crate::positions::find;
 use crate::positions::is_holder;
 
-fn refused(book: Book, refusal: Refusal) -> Transferred
-    ensures { λ r. ⌜ transferStated r ≡ refuse noParts book refusal ⌝ }
+// What Transfer answers, and the positions and their count after it: all of the book that it may change.
+struct Moving {
+    answer: TransferAnswer,
+    positions: [Position; Book::POSITIONS],
+    count: usize,
+}
+
+fn refused(book: Book, refusal: Refusal) -> Moving
+    ensures { λ r. ⌜ movingStated book r ≡ refuse noParts book refusal ⌝ }
 {
-    Transferred {
+    let positions = book.positions;
+    Moving {
         answer: TransferAnswer::Refused(refusal),
-        book: book,
+        positions: positions,
+        count: book.count,
     }
 }
 
 // The parts move from place `from`, the cedent's.
-fn move_parts(book: Book, from: usize, cedent: u32, assignee: u32, parts: Parts) -> Transferred
+fn move_parts(book: Book, from: usize, cedent: u32, assignee: u32, parts: Parts) -> Moving
     requires { ⌜ Sound book ⌝ }
     requires { ⌜ book .opened ≡ true ⌝ }
     requires { ⌜ (from ≡ place cedent (held book)) × (from < book .count) ⌝ }
     requires { ⌜ (cedent ≡ assignee → ⊥) ⌝ }
-    ensures { λ r. ⌜ transferStated r ≡ moved book cedent assignee (parts .0) ⌝ }
+    ensures { λ r. ⌜ movingStated book r ≡ moved book cedent assignee (parts .0) ⌝ }
 {
-    let mut giver = book.positions[from];
+    let mut positions = book.positions;
+    let count = book.count;
+    let mut in_use = count;
+    let mut giver = positions[from];
     let has = giver.share;
     if parts.0 == 0 {
         return refused(book, Refusal::Share);
@@ -46,40 +59,40 @@ fn move_parts(book: Book, from: usize, cedent: u32, assignee: u32, parts: Parts)
     }
     let kept = Parts(has.0 - parts.0);
     giver.share = kept;
-    let mut next = book;
-    let positions = book.positions;
-    let count = book.count;
     match find(positions, count, assignee) {
         Found::At(to) => {
-            let mut taker = book.positions[to];
-            let sum = Parts(taker.share.0 + parts.0);
+            let mut taker = positions[to];
+            let total = taker.share.0 + parts.0;
+            let sum = Parts(total);
             taker.share = sum;
-            next.positions[from] = giver;
-            next.positions[to] = taker;
+            positions[from] = giver;
+            positions[to] = taker;
         }
         Found::Nothing => {
             if Book::POSITIONS <= count {
                 return refused(book, Refusal::BookFull);
             }
-            next.positions[from] = giver;
-            next.positions[count] = Position {
+            positions[from] = giver;
+            positions[count] = Position {
                 holder: assignee,
                 share: parts,
                 unit_days: 0,
                 received: Cents(0),
             };
-            next.count = count + 1;
+            in_use = count + 1;
         }
     }
-    Transferred {
+    Moving {
         answer: TransferAnswer::Remaining(kept),
-        book: next,
+        positions: positions,
+        count: in_use,
     }
 }
 
-pub fn transfer(book: Book, cedent: u32, assignee: u32, parts: Parts) -> Transferred
+// The positions and the answer alone, so that the rest of the book is not copied where the ways meet.
+fn transfer_positions(book: Book, cedent: u32, assignee: u32, parts: Parts) -> Moving
     requires { ⌜ Reached book ⌝ }
-    ensures { λ r. ⌜ transferStated r ≡ transferred book cedent assignee parts ⌝ }
+    ensures { λ r. ⌜ movingStated book r ≡ transferred book cedent assignee parts ⌝ }
 {
     let opened = book.opened;
     if !opened {
@@ -101,5 +114,21 @@ pub fn transfer(book: Book, cedent: u32, assignee: u32, parts: Parts) -> Transfe
             }
             move_parts(book, from, cedent, assignee, parts)
         }
+    }
+}
+
+pub fn transfer(book: Book, cedent: u32, assignee: u32, parts: Parts) -> Transferred
+    requires { ⌜ Reached book ⌝ }
+    ensures { λ r. ⌜ transferStated r ≡ transferred book cedent assignee parts ⌝ }
+{
+    let after = transfer_positions(book, cedent, assignee, parts);
+    let answer = after.answer;
+    let positions = after.positions;
+    let mut next = book;
+    next.positions = positions;
+    next.count = after.count;
+    Transferred {
+        answer: answer,
+        book: next,
     }
 }

@@ -1,103 +1,151 @@
--- `elapse` meets its contract. The loop's invariant: the account is that of the days up to `day`, each at its own rate.
-use Prim.Native.Nat.{ℕ, _-_, _≤_, _<_}
+-- `elapse` meets its contract. The loop's invariant: the account is that of the days up to `day`, each at its own rate, and the order at `at`
+-- holds there.
+use Prim.Native.Nat.{ℕ, _+_, _-_, _≤_, _<_}
 use native.Mathlib.Omega.{arith}
-use mathlib.Core.Path.{_≡_, sym, ap, subst, _∙_}
+use mathlib.Core.Logic.{⊎-elim}
+use mathlib.Core.Path.{_≡_, sym, subst, _∙_}
 use mathlib.Core.List.{List}
-use lib.ListN.{take}
-use Rattle.rates.specs.Rate.{dailyOf}
+use borrow.Author.Needs.{needs}
+use borrow.Author.Tests.{ltb-true, ltb-false}
+use lib.ListN.{length, take, getD}
+use Rattle.rates.proofs.Laws.{greatest}
 use Rattle.book.specs.declared.Account.{Account}
 use Rattle.book.specs.declared.RateOrder.{RateOrder}
+use Rattle.book.specs.Book.{noOrder}
 use Rattle.book.specs.Schedule.{dailyOn}
-use Rattle.book.specs.Computation.{accruedDays, elapsed, nextChange, Bounded}
-use Rattle.book.proofs.Bounds.{bounded-more, bounded-between, annual-most, daily-most}
-use Rattle.book.proofs.Segments.{elapsed-none, change-most, change-after, segment}
+use Rattle.book.specs.Computation.{elapsed, Bounded, Priced, Holding}
+use Rattle.book.proofs.Bounds.{bounded-more, bounded-between}
+use Rattle.book.proofs.Segments.{elapsed-none, next-holds, priced-at, segment}
 use Rattle.book.proofs.accrual.elapse.Statement.{statement}
 use Rattle.book.proofs.accrual.elapse.Tie as tie
 
--- one turn of the loop, to the next change at the day's rate
-turn : (os : List RateOrder) (from day end change daily : ℕ) (a now : Account) → change ≡ nextChange os day end → daily ≡ dailyOn os day
-    → from ≤ day → day < end → now ≡ elapsed (dailyOn os) from (day - from) a
-    → accruedDays (change - day) daily now ≡ elapsed (dailyOn os) from (change - from) a
-turn os from day end change daily a now p q le lt e = rw (p, q) (segment os from day end a now le lt e)
-
 abbrev Inv-loop : tie.InvT-loop
-Inv-loop rates rated end next₀ day₀ next day =
-    (day₀ .0 ≤ day .0) × (day .0 ≤ end .0) × (next ≡ elapsed (dailyOn (take rated rates)) (day₀ .0) (day .0 - day₀ .0) next₀)
+Inv-loop rated place end rates next₀ at₀ day₀ next at day =
+    (day₀ .0 ≤ day .0) × (day .0 ≤ end .0) × Holding rated rates at (day .0)
+    × (next ≡ elapsed (dailyOn (take rated rates)) (day₀ .0) (day .0 - day₀ .0) next₀)
 
 abbrev μ-loop : tie.MeasureT-loop
-μ-loop rates rated end next₀ day₀ next day = end .0 - day .0
+μ-loop rated place end rates next₀ at₀ day₀ next at day = rated - at
 
--- the orders, and the day that the loop is at
-abbrev orders : (s : tie.Start Inv-loop μ-loop) → List RateOrder
-orders s = take (s .args .rated) (s .args .rates)
+-- the array has 16 elements, of which so many are orders
+room : (s : tie.Start Inv-loop μ-loop) → s .args .rated ≤ length (s .args .t2)
+room s = let n : length (s .args .t2) ≡ 16 = search needs in omega (arith, s .pre .1 .1 .0 .0)
 
-abbrev start : (c : tie.After-next-change Inv-loop μ-loop) → tie.Start Inv-loop μ-loop
-start c = c .before .before .before .before .before .before .before
+-- an order's daily rate is at most the greatest
+daily-bound : (n : ℕ) (rs : List RateOrder) (at : ℕ) → Priced (take n rs) → n ≤ length rs → at < n → getD rs at noOrder .daily ≤ 1074597
+daily-bound n rs at p fits lt = let h = priced-at n rs at p fits lt in rw (h .1) (greatest (getD rs at noOrder .annual) (h .0))
 
-abbrev day : (c : tie.After-next-change Inv-loop μ-loop) → ℕ
-day c = c .before .before .before .before .before .before .loop .day .0
+-- the account of a day up to the end
+bounded : (n : ℕ) (rs : List RateOrder) (from day : ℕ) (a now : Account) → Priced (take n rs) → from ≤ day → day ≤ 6000 → Bounded from a
+    → now ≡ elapsed (dailyOn (take n rs)) from (day - from) a → Bounded 6000 now
+bounded n rs from day a now p le most h e =
+    bounded-more day 6000 now most (subst (Bounded day) (sym e) (bounded-between (take n rs) from day a p le h))
 
 loop-holds : tie.Need-loop-holds Inv-loop μ-loop
-loop-holds c = (omega arith, omega arith, elapsed-none _ _ _)
+loop-holds c = (omega arith, omega arith, c .pre .1 .1 .1, elapsed-none _ _ _)
 
-annual-on-requires : tie.Need-annual-on-requires Inv-loop μ-loop
-annual-on-requires c κs = omega arith
+add-loop : tie.Need-add-loop Inv-loop μ-loop
+add-loop c = omega (arith, c .loop .inv .2 .0, c .before .pre .1 .1 .0 .0)
 
-daily-rate-requires : tie.Need-daily-rate-requires Inv-loop μ-loop
-daily-rate-requires c κs =
-    let s = c .before .before .before .before .before in
-    rw (c .annual-on .ensures) (annual-most (orders s) (s .pre .1 .1 .1) _)
+add-if1 : tie.Need-add-if1 Inv-loop μ-loop
+add-if1 c = omega (arith, c .before .loop .inv .2 .0, c .before .before .pre .1 .1 .0 .0)
 
-next-change-requires : tie.Need-next-change-requires Inv-loop μ-loop
-next-change-requires c κs = omega arith
+mul-if1 : tie.Need-mul-if1 Inv-loop μ-loop
+mul-if1 c = omega (arith, c .before .before .pre .1 .1 .0 .0)
 
--- where the next change is
-after : (c : tie.After-next-change Inv-loop μ-loop) → day c < c .next-change .result .0
-after c = omega (arith, c .next-change .ensures, change-after (orders (start c)) (day c) (start c .args .end .0) (omega arith))
+element-copy-out-if1 : tie.Need-element-copy-out-if1 Inv-loop μ-loop
+element-copy-out-if1 c = omega (arith, room (c .before .before))
 
-most : (c : tie.After-next-change Inv-loop μ-loop) → c .next-change .result .0 ≤ start c .args .end .0
-most c = omega (arith, c .next-change .ensures, change-most (orders (start c)) (day c) (start c .args .end .0))
+mul-order : tie.Need-mul-order Inv-loop μ-loop
+mul-order c = let s = c .before .before .before .before in omega (arith, c .before .before .before .loop .inv .2 .0, s .pre .1 .1 .0 .0)
 
--- the daily rate is the day's
-daily-is : (c : tie.After-next-change Inv-loop μ-loop) → c .before .daily-rate .result ≡ dailyOn (orders (start c)) (day c)
-daily-is c = c .before .daily-rate .ensures ∙ ap dailyOf (c .before .before .annual-on .ensures)
+array-copy-out-order : tie.Need-array-copy-out-order Inv-loop μ-loop
+array-copy-out-order c = let s = c .before .before .before .before in omega (arith, c .before .before .before .loop .inv .2 .0, room s)
+
+add-later : tie.Need-add-later Inv-loop μ-loop
+add-later c = let s = c .before .before .before .before .before in omega (arith, c .before .before .before .before .loop .inv .2 .0, s .pre .1 .1 .0 .0)
+
+mul-later : tie.Need-mul-later Inv-loop μ-loop
+mul-later c = let s = c .before .before .before .before .before in omega (arith, s .pre .1 .1 .0 .0)
+
+array-copy-out-later : tie.Need-array-copy-out-later Inv-loop μ-loop
+array-copy-out-later c = let s = c .before .before .before .before .before in omega (arith, room s)
 
 sub-days : tie.Need-sub-days Inv-loop μ-loop
-sub-days c = omega (arith, after (c .before .before))
+sub-days c =
+    let g = c .before .before .before .before .before .before .before .before in
+    omega (arith, g .loop .inv .2 .2 (omega arith))
 
 accrue-requires : tie.Need-accrue-requires Inv-loop μ-loop
 accrue-requires c κs =
-    let g = c .before .before in
-    let s = start g in
-    let l = g .before .before .before .before .before .before .loop in (
-      bounded-more (day g) 6000 (l .next) (omega arith)
-          (subst (Bounded (day g)) (sym (l .inv .2))
-          (bounded-between (orders s) (s .args .from .0) (day g) (s .args .account) (s .pre .1 .1 .1) (l .inv .0) (s .pre .0))),
-      (rw (daily-is g) (daily-most (orders s) (s .pre .1 .1 .1) (day g)), omega (arith, most g)),
+    let g = c .before .before .before .before .before .before .before .before in
+    let s = g .before in
+    let l = g .loop in
+    let p = s .pre .1 .1 .0 .1 in
+    let early : getD (s .args .t2) (l .at + 1) noOrder .first .0 < s .args .end .0 =
+    ltb-true _ _ (c .before .before .before .before .before .if1 .taken) in (
+      bounded (s .args .rated) (s .args .t2) (s .args .from .0) (l .day .0) (s .args .account) (l .next) p (l .inv .0) (omega (arith, l .inv .1, s .pre .1 .0 .1))
+          (s .pre .0) (l .inv .3),
+      (daily-bound (s .args .rated) (s .args .t2) (l .at) p (room s) (l .inv .2 .0), omega (arith, early, s .pre .1 .0 .1)),
     )
 
+add-at : tie.Need-add-at Inv-loop μ-loop
+add-at c =
+    let g = c .before .before .before .before .before .before .before .before .before in
+    omega (arith, g .loop .inv .2 .0, g .before .pre .1 .1 .0 .0)
+
 loop-less : tie.Need-loop-less Inv-loop μ-loop
-loop-less c = let g = c .before .before .before in omega (arith, after g, most g)
+loop-less c = let g = c .before .before .before .before .before .before .before .before .before in omega (arith, g .loop .inv .2 .0)
 
 loop-again : tie.Need-loop-again Inv-loop μ-loop
 loop-again c =
-    let g = c .before .before .before in
-    let s = start g in
-    let l = g .before .before .before .before .before .before .loop in (
-      omega (arith, after g),
-      most g,
+    let g = c .before .before .before .before .before .before .before .before .before in
+    let s = g .before in
+    let l = g .loop in
+    let within : l .at + 1 < s .args .rated = c .before .before .before .before .before .before .before .before .loop-test .taken in
+    let early : getD (s .args .t2) (l .at + 1) noOrder .first .0 < s .args .end .0 =
+    ltb-true _ _ (c .before .before .before .before .before .before .if1 .taken) in
+    let later = l .inv .2 .2 within in (
+      omega (arith, later, l .inv .0),
+      omega (arith, early),
+      next-holds (s .args .rated) (s .args .t2) (l .at) 6000 (s .pre .1 .1 .0 .2) (room s) within,
       c .accrue .ensures
-          ∙ turn (orders s) (s .args .from .0) (day g) (s .args .end .0) _ _ (s .args .account) (l .next)
-          (g .next-change .ensures) (daily-is g) (l .inv .0) (omega arith) (l .inv .2),
+          ∙ segment (s .args .rated) (s .args .t2) (l .at) (s .args .from .0) (l .day .0) _ (s .args .account) (l .next) (s .pre .1 .1 .0 .1)
+          (s .pre .1 .1 .0 .2) (room s) (l .inv .2) (λ _. omega arith) (l .inv .0) later (l .inv .3),
+    )
+
+mul-order-2 : tie.Need-mul-order-2 Inv-loop μ-loop
+mul-order-2 c = omega (arith, c .before .loop .inv .2 .0, c .before .before .pre .1 .1 .0 .0)
+
+array-copy-out-order-2 : tie.Need-array-copy-out-order-2 Inv-loop μ-loop
+array-copy-out-order-2 c = omega (arith, c .before .loop .inv .2 .0, room (c .before .before))
+
+sub-days-2 : tie.Need-sub-days-2 Inv-loop μ-loop
+sub-days-2 c = omega (arith, c .before .before .before .before .loop .inv .1)
+
+accrue-requires-2 : tie.Need-accrue-requires-2 Inv-loop μ-loop
+accrue-requires-2 c κs =
+    let g = c .before .before .before .before in
+    let s = g .before in
+    let l = g .loop in
+    let p = s .pre .1 .1 .0 .1 in (
+      bounded (s .args .rated) (s .args .t2) (s .args .from .0) (l .day .0) (s .args .account) (l .next) p (l .inv .0) (omega (arith, l .inv .1, s .pre .1 .0 .1))
+          (s .pre .0) (l .inv .3),
+      (daily-bound (s .args .rated) (s .args .t2) (l .at) p (room s) (l .inv .2 .0), omega (arith, s .pre .1 .0 .1)),
     )
 
 returns : tie.Need-returns Inv-loop μ-loop
 returns c =
-    let s = c .before .before .before .before in
-    let l = c .before .before .before .loop in
-    let e : l .day .0 ≡ s .args .end .0 = omega arith in
-    l .inv .2
-    ∙ ap (λ (n : ℕ). elapsed (dailyOn (orders s)) (s .args .from .0) (n - s .args .from .0) (s .args .account)) e
+    let g = c .before .before .before .before .before in
+    let s = g .before in
+    let l = g .loop in
+    let until : l .at + 1 < s .args .rated → s .args .end .0 ≤ getD (s .args .t2) (l .at + 1) noOrder .first .0 =
+    λ lt. ⊎-elim (λ w. ltb-false _ _ (w .2 .left)) (λ w. absurd (omega (arith, w .left))) (c .before .before .before .before .loop-test .came) in (
+      c .accrue2 .ensures
+          ∙ segment (s .args .rated) (s .args .t2) (l .at) (s .args .from .0) (l .day .0) (s .args .end .0) (s .args .account) (l .next) (s .pre .1 .1 .0 .1)
+          (s .pre .1 .1 .0 .2) (room s) (l .inv .2) until (l .inv .0) (l .inv .1) (l .inv .3),
+      (l .inv .2 .0, omega (arith, l .inv .1, l .inv .2 .1), until),
+    )
 
 pub elapse-spec : {M : Type 1} → statement M
 elapse-spec =
@@ -106,11 +154,22 @@ elapse-spec =
     Inv-loop
     μ-loop
     loop-holds
-    annual-on-requires
-    daily-rate-requires
-    next-change-requires
+    add-loop
+    add-if1
+    mul-if1
+    element-copy-out-if1
+    mul-order
+    array-copy-out-order
+    add-later
+    mul-later
+    array-copy-out-later
     sub-days
     accrue-requires
+    add-at
     loop-less
     loop-again
+    mul-order-2
+    array-copy-out-order-2
+    sub-days-2
+    accrue-requires-2
     returns)

@@ -2,112 +2,106 @@
 use Prim.Native.Nat.{ℕ, _+_, _-_, _≤_, _<_}
 use native.Mathlib.Omega.{arith}
 use mathlib.Core.Path.{_≡_, refl, sym, ap, _∙_}
-use mathlib.Core.List.{List, map}
-use mathlib.Core.Bool.{true}
-use lib.ListN.{length, getD, set, length-map}
-use Rattle.book.specs.declared.Book.{Book}
+use mathlib.Core.List.{List, _++_, map}
+use borrow.Author.Needs.{needs}
+use lib.ListN.{length, take, drop, getD, set, length-map}
+use lib.Seq.{length-take-le, getD-take}
 use Rattle.book.specs.declared.Position.{Position}
-use Rattle.book.specs.Book.{held, fresh}
-use Rattle.book.specs.Sound.{Sound, OpenSound}
+use Rattle.book.specs.Book.{fresh}
+use Rattle.book.specs.Positions.{shares, unitDays, total}
 use Rattle.book.specs.Computation.{daysHeld}
-use Rattle.book.proofs.ChangedBook.{Roomy, length-held}
 use Rattle.book.proofs.DaysPassed.{daysHeld-at}
-use Rattle.book.proofs.Filled.{withArray}
-use Rattle.book.proofs.Replaced.{replaced, next-at, one-more, all-done}
+use Rattle.book.proofs.Filled.{filled, filled-at, filled-step, filled-all}
 use Rattle.book.proofs.ListTotals.{total-most-of}
 use Rattle.book.proofs.advancing.hold_days.Statement.{statement}
 use Rattle.book.proofs.advancing.hold_days.Tie as tie
 
--- the positions after so many days
-abbrev later : ℕ → Book → List Position
-later days b = map (daysHeld days) (held b)
+-- the first n positions after so many days
+abbrev later : ℕ → ℕ → List Position → List Position
+later days n ps = map (daysHeld days) (take n ps)
 
-module _ (b : Book) (sound : Sound b) (is-open : b .opened ≡ true) (days : ℕ) where
-  known : OpenSound b
-  known = sound .when-open is-open
+-- no share and no unit-days are over their totals
+share-most : (qs : List Position) → total (shares qs) ≤ 1000000 → (i : ℕ) → getD qs i (fresh 0 0) .share .0 ≤ 1000000
+share-most qs most i = omega (arith, total-most-of (λ (p : Position). p .share .0) qs i (fresh 0 0) refl)
 
-  count-most : b .count ≤ 64
-  count-most = known .positions-most
+unit-days-most : (qs : List Position) → total (unitDays qs) ≤ 92000000 → (i : ℕ) → getD qs i (fresh 0 0) .«unit_days» ≤ 92000000
+unit-days-most qs most i = omega (arith, total-most-of (λ (p : Position). p .«unit_days») qs i (fresh 0 0) refl)
 
-  room : Roomy b
-  room = omega (arith, sound .room-positions, count-most)
+module _ (days n : ℕ) (ps : List Position) (room : n ≤ length ps) where
+  as-many : length (later days n ps) ≡ n
+  as-many = length-map (take n ps) (daysHeld days) ∙ length-take-le n ps room
 
-  as-many : length (later days b) ≡ b .count
-  as-many = length-map (held b) (daysHeld days) ∙ length-held b room
+  module _ (next : List Position) (i : ℕ) (so-far : next ≡ filled (later days n ps) i ps) where
+    here : i < n → getD next i (fresh 0 0) ≡ getD (take n ps) i (fresh 0 0)
+    here lt =
+        ap (λ (l : List Position). getD l i (fresh 0 0)) so-far
+        ∙ filled-at (later days n ps) ps i (fresh 0 0) (omega arith) (omega (arith, as-many))
+        ∙ sym (getD-take n ps i (fresh 0 0) lt)
 
-  -- no share and no unit-days are over their totals
-  share-most : (i : ℕ) → getD (held b) i (fresh 0 0) .share .0 ≤ 1000000
-  share-most i = omega (arith, known, total-most-of (λ (p : Position). p .share .0) (held b) i (fresh 0 0) refl)
+    gained : i < n → (p : Position) → p ≡ daysHeld days (getD next i (fresh 0 0)) → set next i p ≡ filled (later days n ps) (i + 1) ps
+    gained lt p e =
+        ap (λ (l : List Position). set l i p) so-far
+        ∙ filled-step (later days n ps) ps i (fresh 0 0) (omega arith) p (omega (arith, as-many))
+        (e ∙ ap (daysHeld days) (here lt) ∙ sym (daysHeld-at days (take n ps) i (fresh 0 0) (omega (arith, length-take-le n ps room))))
 
-  unit-days-most : (i : ℕ) → getD (held b) i (fresh 0 0) .«unit_days» ≤ 92000000
-  unit-days-most i = omega (arith, known, total-most-of (λ (p : Position). p .«unit_days») (held b) i (fresh 0 0) refl)
-
-  module _ (next : Book) (i : ℕ) (so-far : next ≡ replaced b (later days b) i) (lt : i < b .count) where
-    here : getD (next .positions) i (fresh 0 0) ≡ getD (held b) i (fresh 0 0)
-    here = next-at b (later days b) room as-many next i so-far lt
-
-    here-most : (getD (next .positions) i (fresh 0 0) .«unit_days» ≤ 92000000) × (getD (next .positions) i (fresh 0 0) .share .0 ≤ 1000000)
-    here-most = rw here (unit-days-most i, share-most i)
-
-    gained : (p : Position) → p ≡ daysHeld days (getD (next .positions) i (fresh 0 0)) → withArray next (set (next .positions) i p) ≡ replaced b (later days b) (i + 1)
-    gained p e =
-        one-more b (later days b) room as-many next i so-far p lt
-        (e ∙ ap (daysHeld days) here ∙ sym (daysHeld-at days (held b) i (fresh 0 0) (omega (arith, length-held b room))))
+    all-gained : i ≡ n → next ≡ later days n ps ++ drop n ps
+    all-gained e =
+        so-far
+        ∙ filled-all (later days n ps) ps i (e ∙ sym as-many)
+        ∙ ap (λ (k : ℕ). later days n ps ++ drop k ps) as-many
 
 abbrev Inv-loop : tie.InvT-loop
-Inv-loop days next₀ count i₀ next i = (i ≤ count) × (next ≡ replaced next₀ (later (days .0) next₀) i)
+Inv-loop count days next₀ i₀ next i =
+    (i ≤ count) × (length next₀ ≡ 64) × (next ≡ filled (later (days .0) count next₀) i next₀)
 
 abbrev μ-loop : tie.MeasureT-loop
-μ-loop days next₀ count i₀ next i = count - i
-
-most : (s : tie.Start Inv-loop μ-loop) → s .args .book .count ≤ 64
-most s = count-most (s .args .book) (s .pre .0) (s .pre .1 .0) (s .args .days .0)
+μ-loop count days next₀ i₀ next i = count - i
 
 loop-holds : tie.Need-loop-holds Inv-loop μ-loop
-loop-holds c = (omega arith, refl)
+loop-holds c = (omega arith, search needs, refl)
 
 mul-position : tie.Need-mul-position Inv-loop μ-loop
-mul-position c = omega (arith, most (c .before .before))
+mul-position c = omega (arith, c .before .before .pre .0)
 
-element-copy-out-position : tie.Need-element-copy-out-position Inv-loop μ-loop
-element-copy-out-position c = omega (arith, most (c .before .before))
+array-copy-out-position : tie.Need-array-copy-out-position Inv-loop μ-loop
+array-copy-out-position c = omega (arith, c .before .before .pre .0)
 
 held-for-requires : tie.Need-held-for-requires Inv-loop μ-loop
 held-for-requires c κs =
-    let start = c .before .before .before in
-    let now = c .before .before .loop in
-    let fits = here-most (start .args .book) (start .pre .0) (start .pre .1 .0) (start .args .days .0) (now .next) (now .i) (now .inv .1) (omega arith) in
-    (fits .0, fits .1, start .pre .1 .1)
+    let s = c .before .before .before in
+    let l = c .before .before .loop in
+    let qs = take (s .args .count) (s .args .positions) in
+    let same =
+    here (s .args .days .0) (s .args .count) (s .args .positions) (omega (arith, s .pre .0)) (l .next) (l .i) (l .inv .2) (omega arith) in
+    (rw same (unit-days-most qs (s .pre .1 .0) (l .i)), rw same (share-most qs (s .pre .1 .1) (l .i)), s .pre .0 .1)
 
-mul-held : tie.Need-mul-held Inv-loop μ-loop
-mul-held c = omega (arith, most (c .before .before .before .before))
+mul-next : tie.Need-mul-next Inv-loop μ-loop
+mul-next c = omega (arith, c .before .before .before .before .pre .0)
 
-element-set-from-held : tie.Need-element-set-from-held Inv-loop μ-loop
-element-set-from-held c = omega (arith, most (c .before .before .before .before))
+array-set-from-next : tie.Need-array-set-from-next Inv-loop μ-loop
+array-set-from-next c = omega (arith, c .before .before .before .before .pre .0)
 
 add-i : tie.Need-add-i Inv-loop μ-loop
-add-i c = omega (arith, most (c .before .before .before .before))
+add-i c = omega (arith, c .before .before .before .before .pre .0)
 
 loop-less : tie.Need-loop-less Inv-loop μ-loop
 loop-less c = omega arith
 
 loop-again : tie.Need-loop-again Inv-loop μ-loop
 loop-again c =
-    let start = c .before .before .before .before in
-    let now = c .before .before .before .loop in (
+    let s = c .before .before .before .before in
+    let l = c .before .before .before .loop in (
       omega arith,
-      gained (start .args .book) (start .pre .0) (start .pre .1 .0) (start .args .days .0) (now .next) (now .i) (now .inv .1) (omega arith)
+      l .inv .1,
+      gained (s .args .days .0) (s .args .count) (s .args .positions) (omega (arith, s .pre .0)) (l .next) (l .i) (l .inv .2) (omega arith)
           (c .held-for .result) (c .held-for .ensures),
     )
 
 returns : tie.Need-returns Inv-loop μ-loop
 returns c =
-    let start = c .before .before in
-    let now = c .before .loop in
-    let b : Book = start .args .book in
-    let days : ℕ = start .args .days .0 in
-    all-done b (later days b) (room b (start .pre .0) (start .pre .1 .0) days) (as-many b (start .pre .0) (start .pre .1 .0) days)
-    (now .next) (now .i) (now .inv .1) (now .inv .0) (omega arith)
+    let s = c .before .before in
+    let l = c .before .loop in
+    all-gained (s .args .days .0) (s .args .count) (s .args .positions) (omega (arith, s .pre .0)) (l .next) (l .i) (l .inv .2) (omega arith)
 
 pub hold-days-spec : {M : Type 1} → statement M
 hold-days-spec =
@@ -117,10 +111,10 @@ hold-days-spec =
     μ-loop
     loop-holds
     mul-position
-    element-copy-out-position
+    array-copy-out-position
     held-for-requires
-    mul-held
-    element-set-from-held
+    mul-next
+    array-set-from-next
     add-i
     loop-less
     loop-again

@@ -122,7 +122,7 @@ returns-6 c =
 new-book-requires : tie.Need-new-book-requires
 new-book-requires c κs =
     let lists = financed _ _ (financing c) in
-    (lists .one-length, lists .few)
+    ((lists .one-length, lists .few), omega arith)
 
 returns-7 : tie.Need-returns-7
 returns-7 c =

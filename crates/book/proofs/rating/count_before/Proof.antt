@@ -8,7 +8,7 @@ use borrow.Author.Needs.{needs}
 use borrow.Author.Tests.{lt-ltb, le-ltb}
 use lib.ListN.{length, take, drop, getD}
 use Rattle.book.specs.declared.RateOrder.{RateOrder}
-use Rattle.book.specs.Book.{orderFrom}
+use Rattle.book.specs.Book.{noOrder}
 use Rattle.book.specs.Rate.{startingBefore}
 use Rattle.book.proofs.Turns.{remains, none-remains}
 use Rattle.book.proofs.rating.count_before.Statement.{statement}
@@ -17,16 +17,16 @@ use Rattle.book.proofs.rating.count_before.Tie as tie
 -- one order, and the end
 module _ (rates : List RateOrder) (n i day : ℕ) (room : n ≤ length rates) (count x : ℕ)
     (inv : x ≡ count + length (startingBefore day (drop i (take n rates)))) where
-  counted : i < n → getD rates i (orderFrom 0 0) .first .0 < day → x ≡ count + 1 + length (startingBefore day (drop (i + 1) (take n rates)))
+  counted : i < n → getD rates i noOrder .first .0 < day → x ≡ count + 1 + length (startingBefore day (drop (i + 1) (take n rates)))
   unfolding startingBefore
   counted lt before =
-      let more = rw (remains rates n i room (orderFrom 0 0) lt, lt-ltb (getD rates i (orderFrom 0 0) .first .0) day before) at inv in
+      let more = rw (remains rates n i room noOrder lt, lt-ltb (getD rates i noOrder .first .0) day before) at inv in
       omega arith
 
-  passed-over : i < n → day ≤ getD rates i (orderFrom 0 0) .first .0 → x ≡ count + length (startingBefore day (drop (i + 1) (take n rates)))
+  passed-over : i < n → day ≤ getD rates i noOrder .first .0 → x ≡ count + length (startingBefore day (drop (i + 1) (take n rates)))
   unfolding startingBefore
   passed-over lt from =
-      rw (remains rates n i room (orderFrom 0 0) lt, le-ltb (getD rates i (orderFrom 0 0) .first .0) day from) at inv
+      rw (remains rates n i room noOrder lt, le-ltb (getD rates i noOrder .first .0) day from) at inv
 
   all-counted : n ≤ i → i ≤ n → count ≡ x
   unfolding startingBefore

@@ -8,9 +8,10 @@ use borrow.Author.Tests.{lt-ltb, le-ltb, le-leb, lt-leb}
 use lib.ListN.{length}
 use Rattle.calendar.specs.Calendar.{dayCount}
 use Rattle.calendar.proofs.Laws.{laws}
+use Rattle.rates.specs.Rate.{dailyOf}
 use Rattle.book.specs.declared.Book.{Book}
 use Rattle.book.specs.declared.Refusal.the-variants as refusal
-use Rattle.book.specs.Book.{orderFrom, ratesOf}
+use Rattle.book.specs.Book.{ratesOf}
 use Rattle.book.specs.Outcome.{refuse, noChanges}
 use Rattle.book.specs.Rate.{startingBefore, revised, ratedFrom}
 use Rattle.book.specs.Sound.{OpenSound}
@@ -38,10 +39,12 @@ module _ (b : Book) (count annual first : ℕ) (e : first ≡ dayCount (b .first
           le-leb 16 (length (startingBefore (count - first) (ratesOf b))) le,
         )
 
-    on-day : length (startingBefore (count - first) (ratesOf b)) < 16 → revised b (orderFrom (count - first) annual) ≡ ratedFrom b count annual
+    on-day : (daily : ℕ) → daily ≡ dailyOf annual → length (startingBefore (count - first) (ratesOf b)) < 16
+        → revised b (record { first = record { 0 = count - first }; annual = annual; daily = daily }) ≡ ratedFrom b count annual
     unfolding ratedFrom
-    on-day lt =
+    on-day daily is lt =
         rw (
+          is,
           ← e,
           le-ltb count (first + 0) (omega arith),
           le-ltb (first + b .today .0) count until,
@@ -98,18 +101,21 @@ returns-3 c =
     ∙ full (s .args .book) (s .args .count) (s .args .annual) (first .result) (first .ensures) (omega arith) (omega arith)
     (omega (arith, c .before .before .count-before .ensures))
 
+daily-rate-requires : tie.Need-daily-rate-requires
+daily-rate-requires c κs = c .before .before .before .before .before .before .before .pre .1 .1
+
 revise-requires : tie.Need-revise-requires
 revise-requires c κs =
-    let s = c .before .before .before .before .before .before .before in
-    (s .pre .0, (s .pre .1 .0, (s .pre .1 .1, omega (arith, c .before .count-before .ensures))))
+    let s = c .before .before .before .before .before .before .before .before in
+    (s .pre .0, (s .pre .1 .0, ((s .pre .1 .1, c .daily-rate .ensures, omega arith), omega (arith, c .before .before .count-before .ensures))))
 
 returns-4 : tie.Need-returns-4
 returns-4 c =
-    let s = c .before .before .before .before .before .before .before .before in
-    let first = c .before .before .before .before .before .before .before .count-of in
+    let s = c .before .before .before .before .before .before .before .before .before in
+    let first = c .before .before .before .before .before .before .before .before .count-of in
     c .revise .ensures
-    ∙ on-day (s .args .book) (s .args .count) (s .args .annual) (first .result) (first .ensures) (omega arith) (omega arith)
-    (omega (arith, c .before .before .count-before .ensures))
+    ∙ on-day (s .args .book) (s .args .count) (s .args .annual) (first .result) (first .ensures) (omega arith) (omega arith) _
+    (c .before .daily-rate .ensures) (omega (arith, c .before .before .before .count-before .ensures))
 
 pub rate-from-spec : {M : Type 1} → statement M
 rate-from-spec =
@@ -124,5 +130,6 @@ rate-from-spec =
     count-before-requires
     refused-requires-3
     returns-3
+    daily-rate-requires
     revise-requires
     returns-4)

@@ -6,24 +6,31 @@ use mathlib.Core.Path.{_≡_, refl, _∙_}
 use borrow.Author.Needs.{needs}
 use lib.ListN.{length, take, drop, getD}
 use Rattle.book.specs.Book.{opening, noSettlement}
-use Rattle.book.specs.Computation.{Bounded, Timely, replayed}
+use Rattle.book.specs.Computation.{Bounded, Timely, Holding, replayed}
 use Rattle.book.proofs.Bounds.{bounded-opening, bounded-more, bounded-between, bounded-paid}
+use Rattle.book.proofs.Segments.{first-holds}
 use Rattle.book.proofs.Replays.{replayFrom, timely-most, replay-whole, timely-turn, replay-over, replay-turn, replay-end}
 use Rattle.book.proofs.rating.replay.Statement.{statement}
 use Rattle.book.proofs.rating.replay.Tie as tie
 
 abbrev Inv-loop : tie.InvT-loop
-Inv-loop rates rated settled today settlements account₀ from₀ i₀ account from i =
+Inv-loop rates rated settled today settlements account₀ from₀ at₀ i₀ account from at i =
     (i ≤ settled) × Bounded (from .0) account × Timely (from .0) (drop i (take settled settlements)) (today .0)
+    × Holding rated rates at (from .0)
     × (replayFrom (take rated rates) account (from .0) (drop i (take settled settlements)) (today .0)
     ≡ replayFrom (take rated rates) account₀ 0 (take settled settlements) (today .0))
 
 abbrev μ-loop : tie.MeasureT-loop
-μ-loop rates rated settled today settlements account₀ from₀ i₀ account from i = settled - i
+μ-loop rates rated settled today settlements account₀ from₀ at₀ i₀ account from at i = settled - i
+
+-- the array has 16 elements, of which so many are orders
+rates-room : (c : tie.Start Inv-loop μ-loop) → c .args .rated ≤ length (c .args .rates)
+rates-room c = let n : length (c .args .rates) ≡ 16 = search needs in omega (arith, c .pre .1 .0 .0)
 
 loop-holds : tie.Need-loop-holds Inv-loop μ-loop
 unfolding opening
-loop-holds c = (omega arith, bounded-opening _ (c .pre .0 .0), c .pre .1 .1 .1, refl)
+loop-holds c =
+    (omega arith, bounded-opening _ (c .pre .0 .0), c .pre .1 .1 .1, first-holds (c .args .rated) (c .args .rates) 6000 (c .pre .1 .0 .2) (rates-room c), refl)
 
 -- the array has 240 elements, of which so many are settlements
 room : (c : tie.Start Inv-loop μ-loop) → c .args .settled ≤ length (c .args .t4)
@@ -67,38 +74,38 @@ elapse-requires : tie.Need-elapse-requires Inv-loop μ-loop
 elapse-requires c κs =
     let g = c .before .before .before in
     let s = g .before .before in
-    (g .before .loop .inv .1, ((omega (arith, turn g .0), day-most g), s .pre .1 .0))
+    (g .before .loop .inv .1, ((omega (arith, turn g .0), day-most g), (s .pre .1 .0, g .before .loop .inv .3)))
 
 -- the account as the settlement's day begins
 bounded : (c : tie.After-elapse Inv-loop μ-loop)
     → Bounded (getD (c .before .before .before .before .before .before .args .t4) (c .before .before .before .before .before .loop .i) noSettlement .day .0)
-    (c .elapse .result)
+    (c .elapse .result .account)
 bounded c =
     let g = c .before .before .before .before in
     let s = g .before .before in
     let l = g .before .loop in
-    rw (c .elapse .ensures)
+    rw (c .elapse .ensures .0)
     (bounded-between (take (s .args .rated) (s .args .rates)) (l .from .0) _ (l .account) (s .pre .1 .0 .1) (omega (arith, turn g .0)) (l .inv .1))
 
-bounded-6000 : (c : tie.After-elapse Inv-loop μ-loop) → Bounded 6000 (c .elapse .result)
-bounded-6000 c = bounded-more _ 6000 (c .elapse .result) (day-most (c .before .before .before .before)) (bounded c)
+bounded-6000 : (c : tie.After-elapse Inv-loop μ-loop) → Bounded 6000 (c .elapse .result .account)
+bounded-6000 c = bounded-more _ 6000 (c .elapse .result .account) (day-most (c .before .before .before .before)) (bounded c)
 
 add-if1 : tie.Need-add-if1 Inv-loop μ-loop
-add-if1 c = let h = bounded-6000 (c .before) in omega (arith, h .principal, h .interest)
+add-if1 c = let h = bounded-6000 (c .before .before) in omega (arith, h .principal, h .interest)
 
 returns : tie.Need-returns Inv-loop μ-loop
 unfolding opening
 returns c =
-    let h = c .before .before .before in
+    let h = c .before .before .before .before in
     let g = h .before .before .before .before in
     let s = g .before .before in
     let l = g .before .loop in
     replay-over (take (s .args .rated) (s .args .rates)) (s .args .t4) (s .args .settled) (l .i) (l .from .0) (s .args .today .0) (room s)
-    (l .account) (h .elapse .result) _ (h .elapse .ensures) (g .loop-test .taken) (l .inv .3) (omega arith)
+    (l .account) (h .elapse .result .account) _ (h .elapse .ensures .0) (g .loop-test .taken) (l .inv .4) (omega arith)
     ∙ asked s
 
 pay-requires : tie.Need-pay-requires Inv-loop μ-loop
-pay-requires c κs = (bounded-6000 (c .before .before .before), omega arith)
+pay-requires c κs = (bounded-6000 (c .before .before .before .before), omega arith)
 
 add-i : tie.Need-add-i Inv-loop μ-loop
 add-i c = omega arith
@@ -108,15 +115,16 @@ loop-less c = omega arith
 
 loop-again : tie.Need-loop-again Inv-loop μ-loop
 loop-again c =
-    let h = c .before .before .before .before in
+    let h = c .before .before .before .before .before in
     let g = h .before .before .before .before in
     let s = g .before .before in
     let l = g .before .loop in (
       omega arith,
-      rw (c .pay .ensures) (bounded-paid _ _ (h .elapse .result) (omega arith) (bounded h)),
+      rw (c .pay .ensures) (bounded-paid _ _ (h .elapse .result .account) (omega arith) (bounded h)),
       turn g .1,
+      h .elapse .ensures .1,
       replay-turn (take (s .args .rated) (s .args .rates)) (s .args .t4) (s .args .settled) (l .i) (l .from .0) (s .args .today .0) (room s)
-          (l .account) (h .elapse .result) _ (h .elapse .ensures) (g .loop-test .taken) (l .inv .3) (c .pay .result) (omega arith)
+          (l .account) (h .elapse .result .account) _ (h .elapse .ensures .0) (g .loop-test .taken) (l .inv .4) (c .pay .result) (omega arith)
           (c .pay .ensures),
     )
 
@@ -125,15 +133,15 @@ elapse-requires-2 c κs =
     let s = c .before .before in
     let l = c .before .loop in
     let until = timely-most (l .from .0) (drop (l .i) (take (s .args .settled) (s .args .t4))) (s .args .today .0) (l .inv .2) in
-    (l .inv .1, ((until, s .pre .0 .1), s .pre .1 .0))
+    (l .inv .1, ((until, s .pre .0 .1), (s .pre .1 .0, l .inv .3)))
 
 returns-2 : tie.Need-returns-2 Inv-loop μ-loop
 unfolding opening
 returns-2 c =
-    let s = c .before .before .before in
-    let l = c .before .before .loop in
+    let s = c .before .before .before .before in
+    let l = c .before .before .before .loop in
     replay-end (take (s .args .rated) (s .args .rates)) (s .args .t4) (s .args .settled) (l .i) (l .from .0) (s .args .today .0) (room s)
-    (l .account) (c .elapse2 .result) _ (c .elapse2 .ensures) (omega arith) (l .inv .0) (l .inv .3)
+    (l .account) (c .before .elapse2 .result .account) _ (c .before .elapse2 .ensures .0) (omega arith) (l .inv .0) (l .inv .4)
     ∙ asked s
 
 pub replay-spec : {M : Type 1} → statement M

@@ -14,7 +14,8 @@ use Rattle.book.specs.declared.Refusal.the-variants as refusal
 use Rattle.book.specs.declared.rating.Replayed.{Replayed}
 use Rattle.book.specs.declared.rating.Replayed.the-variants.{Standing, Overpaid}
 use Rattle.book.specs.Book.{ratesOf, settlementsOf}
-use Rattle.book.specs.Computation.{replayed, Bounded, Priced}
+use Rattle.rates.specs.Rate.{dailyOf}
+use Rattle.book.specs.Computation.{replayed, Bounded, Priced, FromStart}
 use Rattle.book.specs.Outcome.{Answer, Outcome, Changes, answered, refuse, noChanges}
 use Rattle.book.specs.Rate.{startingBefore, withRates, changesOf, revised}
 use Rattle.book.specs.Sound.{Sound, OpenSound}
@@ -22,7 +23,8 @@ use Rattle.book.specs.Standing.{overpaid}
 use Rattle.book.proofs.Accepted.{ratesAfter, accountAfter}
 use Rattle.book.proofs.AccountBounds.{account-bounded}
 use Rattle.book.proofs.Bounds.{bounded-more}
-use Rattle.book.proofs.StoredRates.{count-most, length-with, priced-with, stored, stored-in-use}
+use Rattle.book.proofs.StoredRates.{count-most, length-with, priced-with, from-start-with, stored, stored-in-use}
+use Rattle.book.proofs.Timeline.{from-start-later}
 use Rattle.book.proofs.rating.revise.Statement.{statement}
 use Rattle.book.proofs.rating.revise.Tie as tie
 
@@ -78,8 +80,14 @@ module _ (b : Book) (h : Sound b) (is-open : b .opened ≡ true) (o : RateOrder)
       stored (b .rates) (b .rated) o (b .today .0) (was .from-start) n e most (omega (arith, h .room-rates))
       ∙ ap (λ (k : ℕ). ratesAfter b o ++ drop k (b .rates)) count
 
-  priced : o .annual ≤ 4000 → Priced (take (n + 1) (set (b .rates) n o))
-  priced le = rw in-use (priced-with o (ratesOf b) le (was .priced))
+  priced : o .annual ≤ 4000 → o .daily ≡ dailyOf (o .annual) → Priced (take (n + 1) (set (b .rates) n o))
+  priced le d = rw in-use (priced-with o (ratesOf b) le d (was .priced))
+
+  from-start : o .first .0 ≤ b .today .0 → FromStart (take (n + 1) (set (b .rates) n o)) 6000
+  from-start until =
+      rw in-use
+      (from-start-later (ratesAfter b o) (b .today .0) 6000 (omega (arith, was .within-term, was .term-most))
+      (from-start-with o (b .today .0) until (ratesOf b) (was .from-start)))
 
   module _ (answer : Replayed)
       (f : answer ≡ replayed (b .recognised .0) (take (n + 1) (set (b .rates) n o)) (settlementsOf b) (b .today .0)) where
@@ -96,11 +104,11 @@ module _ (b : Book) (h : Sound b) (is-open : b .opened ≡ true) (o : RateOrder)
       is : (overpaid (b .recognised .0) (ratesAfter b o) (settlementsOf b) ≡ false) × (a ≡ accountAfter b o)
       is = stands _ a (accountAfter b o) (sym s ∙ told)
 
-      bounded : o .annual ≤ 4000 → Bounded 6000 a
-      bounded le =
+      bounded : o .annual ≤ 4000 → o .daily ≡ dailyOf (o .annual) → Bounded 6000 a
+      bounded le d =
           rw (is .1)
           (bounded-more (b .today .0) 6000 (accountAfter b o) (omega (arith, was .within-term, was .term-most))
-          (account-bounded (b .recognised .0) (ratesAfter b o) (settlementsOf b) (was .recognised-most) (priced-with o (ratesOf b) le (was .priced))
+          (account-bounded (b .recognised .0) (ratesAfter b o) (settlementsOf b) (was .recognised-most) (priced-with o (ratesOf b) le d (was .priced))
           (is .0) (b .today .0)))
 
       revised-standing : (r : Answer Changes) → r ≡ answered (changesOf (b .account) a)
@@ -129,7 +137,8 @@ replay-requires c κs =
       (
         (
           omega (arith, n .ensures, s .pre .1 .1 .1),
-          priced (s .args .book) (s .pre .0) (s .pre .1 .0) (s .args .order) (s .pre .1 .1 .1) (n .result) (n .ensures) (s .pre .1 .1 .0),
+          priced (s .args .book) (s .pre .0) (s .pre .1 .0) (s .args .order) (s .pre .1 .1 .1) (n .result) (n .ensures) (s .pre .1 .1 .0 .0) (s .pre .1 .1 .0 .1),
+          from-start (s .args .book) (s .pre .0) (s .pre .1 .0) (s .args .order) (s .pre .1 .1 .1) (n .result) (n .ensures) (s .pre .1 .1 .0 .2),
         ),
         (o .settlements-most, o .timely),
       ),
@@ -147,7 +156,7 @@ changes-requires c κs =
     let o = s .pre .0 .when-open (s .pre .1 .0) in (
       bounded-more (s .args .book .today .0) 6000 (s .args .book .account) (omega (arith, o .within-term, o .term-most)) (o .bounded),
       bounded (s .args .book) (s .pre .0) (s .pre .1 .0) (s .args .order) (s .pre .1 .1 .1) (n .result) (n .ensures) (r .result) (r .ensures)
-          (a .given .0 .0) (a .given .1) (s .pre .1 .1 .0),
+          (a .given .0 .0) (a .given .1) (s .pre .1 .1 .0 .0) (s .pre .1 .1 .0 .1),
     )
 
 enum-told : tie.Need-enum-told

@@ -2,59 +2,62 @@
 use Prim.Native.Nat.{ℕ, _+_, _-_, _≤_, _<_}
 use native.Mathlib.Omega.{arith}
 use mathlib.Core.Path.{_≡_, refl, sym, ap, _∙_}
-use mathlib.Core.List.{List}
-use lib.ListN.{length, getD, set}
-use Rattle.book.specs.declared.Book.{Book}
+use mathlib.Core.List.{List, _++_}
+use borrow.Author.Needs.{needs}
+use lib.ListN.{length, take, drop, getD, set}
+use lib.Seq.{length-take-le, getD-take}
 use Rattle.book.specs.declared.Position.{Position}
-use Rattle.book.specs.Book.{held, fresh}
+use Rattle.book.specs.Outcome.{noPosition}
 use Rattle.book.specs.Positions.{paidPosition, paidFrom}
-use Rattle.book.specs.Sound.{OpenSound}
-use Rattle.book.proofs.ChangedBook.{Roomy, length-held}
-use Rattle.book.proofs.Filled.{withArray}
-use Rattle.book.proofs.Paid.{length-paid, paid-at, receipt-most}
-use Rattle.book.proofs.Replaced.{replaced, next-at, one-more, all-done}
+use Rattle.book.proofs.Filled.{filled, filled-at, filled-step, filled-all}
+use Rattle.book.proofs.Paid.{length-paid, paid-at}
 use Rattle.book.proofs.settling.pay_positions.Statement.{statement}
 use Rattle.book.proofs.settling.pay_positions.Tie as tie
 
--- the positions paid
-abbrev paid : List ℕ → Book → List Position
-paid portions b = paidFrom (λ k. getD portions k 0) 0 (held b)
+-- the positions in use, paid
+abbrev paid : List ℕ → ℕ → List Position → List Position
+paid portions count ps = paidFrom (λ k. getD portions k 0) 0 (take count ps)
 
-module _ (portions : List ℕ) (b : Book) (room : Roomy b) where
-  as-many : length (paid portions b) ≡ b .count
-  as-many = length-paid (λ k. getD portions k 0) 0 (held b) ∙ length-held b room
+module _ (portions : List ℕ) (count : ℕ) (ps : List Position) (room : count ≤ length ps) where
+  as-many : length (paid portions count ps) ≡ count
+  as-many = length-paid (λ k. getD portions k 0) 0 (take count ps) ∙ length-take-le count ps room
 
-  module _ (next : Book) (i : ℕ) (so-far : next ≡ replaced b (paid portions b) i) (lt : i < b .count) where
-    here : getD (next .positions) i (fresh 0 0) ≡ getD (held b) i (fresh 0 0)
-    here = next-at b (paid portions b) room as-many next i so-far lt
+  module _ (next : List Position) (i : ℕ) (so-far : next ≡ filled (paid portions count ps) i ps) where
+    -- the next position is still as it was
+    here : i < count → getD next i noPosition ≡ getD (take count ps) i noPosition
+    here lt =
+        ap (λ (l : List Position). getD l i noPosition) so-far
+        ∙ filled-at (paid portions count ps) ps i noPosition (omega arith) (omega (arith, as-many))
+        ∙ sym (getD-take count ps i noPosition lt)
 
-    here-most : OpenSound b → getD (next .positions) i (fresh 0 0) .received .0 ≤ 24000000000000
-    here-most known = rw here (receipt-most b known i)
+    one-paid : i < count → (p : Position) → p ≡ paidPosition (getD portions i 0) (getD next i noPosition)
+        → set next i p ≡ filled (paid portions count ps) (i + 1) ps
+    one-paid lt p e =
+        ap (λ (l : List Position). set l i p) so-far
+        ∙ filled-step (paid portions count ps) ps i noPosition (omega arith) p (omega (arith, as-many))
+        (e ∙ ap (paidPosition (getD portions i 0)) (here lt)
+        ∙ sym (paid-at (λ k. getD portions k 0) (take count ps) i noPosition (omega (arith, length-take-le count ps room))))
 
-    one-paid : (p : Position) → p ≡ paidPosition (getD portions i 0) (getD (next .positions) i (fresh 0 0))
-        → withArray next (set (next .positions) i p) ≡ replaced b (paid portions b) (i + 1)
-    one-paid p e =
-        one-more b (paid portions b) room as-many next i so-far p lt
-        (e ∙ ap (paidPosition (getD portions i 0)) here
-        ∙ sym (paid-at (λ k. getD portions k 0) (held b) i (fresh 0 0) (omega (arith, length-held b room))))
+    all-paid : i ≤ count → count ≤ i → next ≡ paid portions count ps ++ drop count ps
+    all-paid le ge =
+        so-far ∙ filled-all (paid portions count ps) ps i (omega (arith, as-many))
+        ∙ ap (λ (n : ℕ). paid portions count ps ++ drop n ps) as-many
 
 abbrev Inv-loop : tie.InvT-loop
-Inv-loop portions next₀ count i₀ next i =
-    (i ≤ count) × (count ≤ 64) × Roomy next₀ × (next ≡ replaced next₀ (paid portions next₀) i)
+Inv-loop count portions next₀ i₀ next i =
+    (i ≤ count) × (count ≤ 64) × (length next₀ ≡ 64) × (next ≡ filled (paid portions count next₀) i next₀)
 
 abbrev μ-loop : tie.MeasureT-loop
-μ-loop portions next₀ count i₀ next i = count - i
+μ-loop count portions next₀ i₀ next i = count - i
 
 loop-holds : tie.Need-loop-holds Inv-loop μ-loop
-loop-holds c =
-    let most = c .pre .0 .when-open (c .pre .1 .0) .positions-most in
-    (omega arith, most, omega (arith, c .pre .0 .room-positions), refl)
+loop-holds c = (omega arith, c .pre .0, search needs, refl)
 
 mul-position : tie.Need-mul-position Inv-loop μ-loop
 mul-position c = omega arith
 
-element-copy-out-position : tie.Need-element-copy-out-position Inv-loop μ-loop
-element-copy-out-position c = omega arith
+array-copy-out-position : tie.Need-array-copy-out-position Inv-loop μ-loop
+array-copy-out-position c = omega arith
 
 mul-portion : tie.Need-mul-portion Inv-loop μ-loop
 mul-portion c = omega arith
@@ -66,14 +69,14 @@ paid-position-requires : tie.Need-paid-position-requires Inv-loop μ-loop
 paid-position-requires c κs =
     let s = c .before .before .before in
     let l = c .before .before .loop in
-    let known = s .pre .0 .when-open (s .pre .1 .0) in
-    (here-most (s .args .t2) (s .args .book) (l .inv .2) (l .next) (l .i) (l .inv .3) (omega arith) known, s .pre .1 .1 (l .i))
+    let same = here (s .args .t3) (s .args .count) (s .args .positions) (omega arith) (l .next) (l .i) (l .inv .3) (omega arith) in
+    (rw same (s .pre .1 .0 (l .i)), s .pre .1 .1 (l .i))
 
-mul-paid : tie.Need-mul-paid Inv-loop μ-loop
-mul-paid c = omega arith
+mul-next : tie.Need-mul-next Inv-loop μ-loop
+mul-next c = omega arith
 
-element-set-from-paid : tie.Need-element-set-from-paid Inv-loop μ-loop
-element-set-from-paid c = omega arith
+array-set-from-next : tie.Need-array-set-from-next Inv-loop μ-loop
+array-set-from-next c = omega arith
 
 add-i : tie.Need-add-i Inv-loop μ-loop
 add-i c = omega arith
@@ -89,16 +92,14 @@ loop-again c =
       omega arith,
       l .inv .1,
       l .inv .2,
-      one-paid (s .args .t2) (s .args .book) (l .inv .2) (l .next) (l .i) (l .inv .3) (omega arith) (p .result) (p .ensures),
+      one-paid (s .args .t3) (s .args .count) (s .args .positions) (omega arith) (l .next) (l .i) (l .inv .3) (omega arith) (p .result) (p .ensures),
     )
 
 returns : tie.Need-returns Inv-loop μ-loop
 returns c =
     let s = c .before .before in
-    let b = s .args .book in
     let l = c .before .loop in
-    let n = as-many (s .args .t2) b (l .inv .2) in
-    all-done b (paid (s .args .t2) b) (l .inv .2) n (l .next) (l .i) (l .inv .3) (omega arith) (omega arith)
+    all-paid (s .args .t3) (s .args .count) (s .args .positions) (omega arith) (l .next) (l .i) (l .inv .3) (omega arith) (omega arith)
 
 pub pay-positions-spec : {M : Type 1} → statement M
 pay-positions-spec =
@@ -108,12 +109,12 @@ pay-positions-spec =
     μ-loop
     loop-holds
     mul-position
-    element-copy-out-position
+    array-copy-out-position
     mul-portion
     array-read-portion
     paid-position-requires
-    mul-paid
-    element-set-from-paid
+    mul-next
+    array-set-from-next
     add-i
     loop-less
     loop-again

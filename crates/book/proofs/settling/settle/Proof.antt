@@ -1,104 +1,111 @@
--- Each way out is a case of Settle; the book is sound because it is reached.
+-- The answer tells whether every condition holds; where it does, the book is the settled one, put together from its parts.
+use Prim.Native.Nat.{_<_, _≤_}
 use native.Mathlib.Omega.{arith}
+use mathlib.Core.Path.{_≡_, sym, ap, _∙_}
 use borrow.Author.Needs.{needs}
-use borrow.Author.Tests.{not-true, not-false}
-use mathlib.Core.Path.{_≡_, _∙_}
-use mathlib.Core.Bool.{true}
-use Rattle.book.specs.Sound.{Sound}
+use Rattle.book.specs.declared.Book.{Book}
+use Rattle.book.specs.Book.{held, withAccount, withSettlement}
+use Rattle.book.specs.Outcome.{Answer, Outcome, Taken, settleCase}
+use Rattle.book.specs.Positions.{unitDays, total}
+use Rattle.book.specs.Sound.{OpenSound}
+use Rattle.book.proofs.Accepted.{SettleRight}
+use Rattle.book.proofs.Bounds.{bounded-more}
+use Rattle.book.proofs.ChangedBook.{Roomy}
 use Rattle.book.proofs.Kept.{sound}
-use Rattle.book.proofs.Settlements.{unopened, too-much, full, no-day, overpaid, accepted}
+use Rattle.book.proofs.Paid.{receipt-most}
+use Rattle.book.proofs.Settlements.{taken-right, taken-book, refused-book, put-together}
 use Rattle.book.proofs.settling.settle.Statement.{statement}
 use Rattle.book.proofs.settling.settle.Tie as tie
 
--- past the first test the book is open
-is-open : (c : tie.Else1) → c .before .args .book .opened ≡ true
-is-open c = not-false (c .before .args .book .opened) (c .if1 .left)
+-- an outcome is its answer and its book
+outcome : (o : Outcome Taken) (a : Answer Taken) (b : Book) → a ≡ o .answer → b ≡ o .book
+    → _≡_ {A = Outcome Taken} (record { answer = a; book = b }) o
+outcome o a b e f = rw (e, f)
 
-is-sound : (c : tie.Else1) → Sound (c .before .args .book)
-is-sound c = sound (c .before .args .book) (c .before .pre)
+-- something is taken
+abbrev asked : tie.After-enum-told → tie.Start
+asked c = c .before .before .before
 
-refused-requires : tie.Need-refused-requires
-refused-requires c κs = search needs
+right : (c : tie.After-enum-told) → SettleRight (asked c .args .book) (asked c .args .cents .0)
+right c =
+    let s = asked c in
+    let t = c .before .before .taking in
+    taken-right (s .args .book) (s .args .cents) _ (ap settleCase (sym (c .enum-told .given .1)) ∙ t .ensures)
+
+known : (c : tie.After-enum-told) → OpenSound (asked c .args .book)
+known c = let s = asked c in sound (s .args .book) (s .pre) .when-open (right c .is-open)
+
+room : (c : tie.After-enum-told) → Roomy (asked c .args .book)
+room c = let s = asked c in omega (arith, sound (s .args .book) (s .pre) .room-positions, known c .positions-most)
+
+-- a day at least has passed since the last settlement, and 92 at most
+days-some : (c : tie.After-enum-told) → 0 < total (unitDays (held (asked c .args .book)))
+days-some c = omega (arith, known c, right c)
+
+days-most : (c : tie.After-enum-told) → total (unitDays (held (asked c .args .book))) ≤ 92000000
+days-most c = omega (arith, known c, right c)
+
+taking-requires : tie.Need-taking-requires
+taking-requires c κs = sound (c .args .book) (c .pre)
+
+enum-told : tie.Need-enum-told
+enum-told c = search needs
+
+pay-requires : tie.Need-pay-requires
+pay-requires c κs =
+    let t = c .before in
+    let b = asked t .args .book in
+    (bounded-more (b .today .0) 6000 (b .account) (omega (arith, known t)) (known t .bounded), right t .owed)
+
+pay-out-requires : tie.Need-pay-out-requires
+pay-out-requires c κs =
+    let t = c .before .before .before in (
+      (known t .positions-some, known t .positions-most, right t .cents-most),
+      ((days-some t, days-most t), receipt-most (asked t .args .book) (known t)),
+    )
+
+mul-settlements : tie.Need-mul-settlements
+mul-settlements c = omega (arith, right (c .before .before .before .before .before .before))
+
+array-set-from-settlements : tie.Need-array-set-from-settlements
+array-set-from-settlements c = omega (arith, right (c .before .before .before .before .before .before))
+
+add-next : tie.Need-add-next
+add-next c = omega (arith, right (c .before .before .before .before .before .before))
+
+enum-told-2 : tie.Need-enum-told-2
+enum-told-2 c = search needs
 
 returns : tie.Need-returns
+unfolding withAccount withSettlement
 returns c =
-    let a = c .before .before .args in
-    c .refused .ensures ∙ unopened (a .book) (a .cents) (not-true (a .book .opened) (c .before .if1 .taken))
-
-refused-requires-2 : tie.Need-refused-requires-2
-refused-requires-2 c κs = search needs
+    let t = c .before .before .before .before .before .before in
+    let a = asked t .args in
+    let answer = t .before .before .taking in
+    let paid = c .before .before .before .before .pay in
+    let out = c .before .before .pay-out in
+    outcome _ _ _ (answer .ensures)
+    (put-together (a .book) (room t) (a .cents .0) (out .result) (paid .result) (out .ensures) (paid .ensures)
+    ∙ taken-book (a .book) (a .cents) _ (ap settleCase (sym (t .enum-told .given .1)) ∙ answer .ensures))
 
 returns-2 : tie.Need-returns-2
 returns-2 c =
-    let o = c .before .before .before in
-    let a = o .before .args in
-    c .refused2 .ensures ∙ too-much (a .book) (a .cents) (is-open o) (omega arith)
-
-refused-requires-3 : tie.Need-refused-requires-3
-refused-requires-3 c κs = search needs
-
-returns-3 : tie.Need-returns-3
-returns-3 c =
-    let o = c .before .before .before .before .before in
-    let a = o .before .args in
-    c .refused3 .ensures ∙ full (a .book) (a .cents) (is-open o) (omega arith) (omega arith)
-
-last-settled-requires : tie.Need-last-settled-requires
-last-settled-requires c κs =
-    let o = c .before .before .before .before in
-    (is-sound o, is-open o)
-
-refused-requires-4 : tie.Need-refused-requires-4
-refused-requires-4 c κs = search needs
-
-returns-4 : tie.Need-returns-4
-returns-4 c =
-    let o = c .before .before .before .before .before .before .before .before .before in
-    let a = o .before .args in
-    c .refused4 .ensures ∙ no-day (a .book) (a .cents) (is-open o) (omega arith) (omega arith) (omega arith)
-
-add-if5 : tie.Need-add-if5
-add-if5 c =
-    let o = c .before .before .before .before .before .before .before .before .before in
-    omega (arith, is-sound o .when-open (is-open o))
-
-refused-requires-5 : tie.Need-refused-requires-5
-refused-requires-5 c κs = search needs
-
-returns-5 : tie.Need-returns-5
-returns-5 c =
-    let o = c .before .before .before .before .before .before .before .before .before .before .before .before in
-    let within = c .before .before .before .before .before .before .before .before .before .before .if2 .left in
-    let a = o .before .args in
-    c .refused5 .ensures ∙ overpaid (a .book) (a .cents) (is-open o) (omega arith) (omega arith) (omega arith) (omega arith)
-
-settle-today-requires : tie.Need-settle-today-requires
-settle-today-requires c κs =
-    let o = c .before .before .before .before .before .before .before .before .before .before .before in
-    (is-sound o, (is-open o, ((omega arith, omega arith), (omega arith, omega arith))))
-
-returns-6 : tie.Need-returns-6
-returns-6 c =
-    let o = c .before .before .before .before .before .before .before .before .before .before .before .before in
-    let within = c .before .before .before .before .before .before .before .before .before .before .if2 .left in
-    let a = o .before .args in
-    c .settle-today .ensures ∙ accepted (a .book) (a .cents) (is-open o) (omega arith) (omega arith) (omega arith) (omega arith)
+    let s = c .before .before .before in
+    let answer = c .before .before .taking in
+    outcome _ _ _ (answer .ensures)
+    (refused-book (s .args .book) (s .args .cents) (c .enum-told2 .given .0 .0) (ap settleCase (sym (c .enum-told2 .given .1)) ∙ answer .ensures))
 
 pub settle-spec : {M : Type 1} → statement M
 settle-spec =
     tie.close
     (tie.spec
-    refused-requires
+    taking-requires
+    enum-told
+    pay-requires
+    pay-out-requires
+    mul-settlements
+    array-set-from-settlements
+    add-next
+    enum-told-2
     returns
-    refused-requires-2
-    returns-2
-    refused-requires-3
-    returns-3
-    last-settled-requires
-    refused-requires-4
-    returns-4
-    add-if5
-    refused-requires-5
-    returns-5
-    settle-today-requires
-    returns-6)
+    returns-2)

@@ -2,33 +2,33 @@
 use borrow.Author.Needs.{needs}
 use Prim.Native.Nat.{ℕ, _+_, _-_, _≤_, _<_}
 use native.Mathlib.Omega.{arith}
-use mathlib.Core.Path.{_≡_, _∙_}
+use mathlib.Core.Path.{_≡_}
 use mathlib.Core.Bool.{or-true}
 use borrow.Author.Tests.{lt-ltb, le-ltb, le-leb, lt-leb}
 use Rattle.calendar.specs.Calendar.{dayCount}
 use Rattle.calendar.proofs.Laws.{laws}
 use Rattle.book.specs.declared.Book.{Book}
 use Rattle.book.specs.declared.Refusal.the-variants as refusal
-use Rattle.book.specs.Advance.{lastSettled, daysPassed, advancedTo}
+use Rattle.book.specs.Advance.{lastSettled, advancedTo}
 use Rattle.book.specs.Book.{settlementsOf}
-use Rattle.book.specs.Outcome.{accept, refuse, noDays}
+use Rattle.book.specs.Outcome.{answered, declined, noDays}
 use Rattle.book.specs.Sound.{OpenSound}
 use Rattle.book.proofs.Timeline.{last-within}
-use Rattle.book.proofs.advancing.advance_to.Statement.{statement}
-use Rattle.book.proofs.advancing.advance_to.Tie as tie
+use Rattle.book.proofs.advancing.passing_to.Statement.{statement}
+use Rattle.book.proofs.advancing.passing_to.Tie as tie
 
 -- What is answered in each case, by the first day's count
 module _ (b : Book) (count first : ℕ) (e : first ≡ dayCount (b .first)) where
-  not-after-today : count ≤ first + b .today .0 → refuse noDays b refusal.Day ≡ advancedTo b count
+  not-after-today : count ≤ first + b .today .0 → declined noDays refusal.Day ≡ advancedTo b count .answer
   unfolding advancedTo
   not-after-today le = rw (← e, le-leb count (first + b .today .0) le)
 
-  after-term : first + b .term .0 < count → refuse noDays b refusal.Day ≡ advancedTo b count
+  after-term : first + b .term .0 < count → declined noDays refusal.Day ≡ advancedTo b count .answer
   unfolding advancedTo
   after-term lt = rw (← e, lt-ltb (first + b .term .0) count lt, or-true)
 
   module _ (after : first + b .today .0 < count) (within : count ≤ first + b .term .0) where
-    settlement-pending : first + (lastSettled b + 92) < count → refuse noDays b refusal.SettlementPending ≡ advancedTo b count
+    settlement-pending : first + (lastSettled b + 92) < count → declined noDays refusal.SettlementPending ≡ advancedTo b count .answer
     unfolding advancedTo
     settlement-pending lt =
         rw (
@@ -38,16 +38,14 @@ module _ (b : Book) (count first : ℕ) (e : first ≡ dayCount (b .first)) wher
           lt-ltb (first + (lastSettled b + 92)) count lt,
         )
 
-    passes : (r : Book) → count ≤ first + (lastSettled b + 92) → r ≡ daysPassed (count - (first + b .today .0)) b
-        → accept (record { 0 = count - (first + b .today .0) }) r ≡ advancedTo b count
+    passes : count ≤ first + (lastSettled b + 92) → answered (record { 0 = count - (first + b .today .0) }) ≡ advancedTo b count .answer
     unfolding advancedTo
-    passes r le p =
+    passes le =
         rw (
           ← e,
           lt-leb count (first + b .today .0) after,
           le-ltb (first + b .term .0) count within,
           le-ltb (first + (lastSettled b + 92)) count le,
-          p,
         )
 
 -- What the start knows
@@ -75,86 +73,66 @@ add-today c =
     let start = c .before .before in
     omega (arith, c .before .count-of .ensures, first-most start, today-most start, term-most start)
 
-refused-requires : tie.Need-refused-requires
-refused-requires c κs = search needs
-
 returns : tie.Need-returns
 returns c =
-    let start = c .before .before .before .before in
-    let first = c .before .before .before .count-of in
-    c .refused .ensures ∙ not-after-today (start .args .book) (start .args .count) (first .result) (first .ensures) (omega arith)
+    let start = c .before .before .before in
+    let first = c .before .before .count-of in
+    not-after-today (start .args .book) (start .args .count) (first .result) (first .ensures) (omega arith)
 
 add-if2 : tie.Need-add-if2
 add-if2 c =
     let start = c .before .before .before .before in
     omega (arith, c .before .before .before .count-of .ensures, first-most start, term-most start)
 
-refused-requires-2 : tie.Need-refused-requires-2
-refused-requires-2 c κs = search needs
-
 returns-2 : tie.Need-returns-2
 returns-2 c =
-    let start = c .before .before .before .before .before .before in
-    let first = c .before .before .before .before .before .count-of in
-    c .refused2 .ensures ∙ after-term (start .args .book) (start .args .count) (first .result) (first .ensures) (omega arith)
+    let start = c .before .before .before .before .before in
+    let first = c .before .before .before .before .count-of in
+    after-term (start .args .book) (start .args .count) (first .result) (first .ensures) (omega arith)
 
 last-settled-requires : tie.Need-last-settled-requires
-last-settled-requires c κs = search needs
+last-settled-requires c κs = known (c .before .before .before .before .before .before) .settlements-most
 
 add-if3 : tie.Need-add-if3
 add-if3 c =
-    let start = c .before .before .before .before .before .before .before in
+    let start = c .before .before .before .before .before .before .before .before in
     omega (arith, c .before .last-settled .ensures, last-most start, today-most start, term-most start)
 
 add-if3-2 : tie.Need-add-if3-2
 add-if3-2 c =
-    let start = c .before .before .before .before .before .before .before in
-    let first = c .before .before .before .before .before .before .count-of in
+    let start = c .before .before .before .before .before .before .before .before in
+    let first = c .before .before .before .before .before .before .before .count-of in
     omega (arith, first .ensures, c .before .last-settled .ensures, first-most start, last-most start, today-most start, term-most start)
-
-refused-requires-3 : tie.Need-refused-requires-3
-refused-requires-3 c κs = search needs
 
 returns-3 : tie.Need-returns-3
 returns-3 c =
     let start = c .before .before .before .before .before .before .before .before .before in
     let first = c .before .before .before .before .before .before .before .before .count-of in
-    c .refused3 .ensures
-    ∙ settlement-pending (start .args .book) (start .args .count) (first .result) (first .ensures) (omega arith) (omega arith)
-    (omega (arith, c .before .before .before .last-settled .ensures))
+    settlement-pending (start .args .book) (start .args .count) (first .result) (first .ensures) (omega arith) (omega arith)
+    (omega (arith, c .before .before .last-settled .ensures))
 
-sub-days : tie.Need-sub-days
-sub-days c = search needs
-
-pass-days-requires : tie.Need-pass-days-requires
-pass-days-requires c κs =
-    let start = c .before .before .before .before .before .before .before .before in
-    let last = c .before .before .last-settled .ensures in
-    (start .pre .0, (start .pre .1 .0, (omega (arith, last, last-most start), omega (arith, term-most start))))
+sub-t9 : tie.Need-sub-t9
+sub-t9 c = search needs
 
 returns-4 : tie.Need-returns-4
 returns-4 c =
     let start = c .before .before .before .before .before .before .before .before .before in
     let first = c .before .before .before .before .before .before .before .before .count-of in
-    passes (start .args .book) (start .args .count) (first .result) (first .ensures) (omega arith) (omega arith) (c .pass-days .result)
-    (omega (arith, c .before .before .before .last-settled .ensures)) (c .pass-days .ensures)
+    passes (start .args .book) (start .args .count) (first .result) (first .ensures) (omega arith) (omega arith)
+    (omega (arith, c .before .before .last-settled .ensures))
 
-pub advance-to-spec : {M : Type 1} → statement M
-advance-to-spec =
+pub passing-to-spec : {M : Type 1} → statement M
+passing-to-spec =
     tie.close
     (tie.spec
     count-of-requires
     add-today
-    refused-requires
     returns
     add-if2
-    refused-requires-2
     returns-2
     last-settled-requires
     add-if3
     add-if3-2
-    refused-requires-3
     returns-3
-    sub-days
-    pass-days-requires
+    sub-t9
     returns-4)
