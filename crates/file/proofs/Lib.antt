@@ -8,8 +8,8 @@ pub mod OpeningHolders
 pub mod Saturation
 pub mod FinancingLines
 pub mod Openings
-pub mod CallAnswers
 pub mod Turnings
+pub mod CallAnswers
 pub mod LoadRuns
 pub mod LoadAccepts
 pub mod LoadFaults

@@ -1,9 +1,9 @@
 -- What the parts of the load do. Private contracts alone cite this: nobody has to believe it.
-use Prim.Native.Nat.{ℕ, _≤_}
+use Prim.Native.Nat.{ℕ, _+_, _≤_}
 use mathlib.Core.Path.{_≡_}
 use mathlib.Core.Bool.{Bool, cond}
 use mathlib.Core.List.{List, []}
-use lib.Dec.{ltb}
+use lib.Dec.{ltb, eqb}
 use lib.ListN.{length, take, drop}
 use Rattle.book.specs.declared.Book.{Book}
 use Rattle.book.specs.Call.{Call}
@@ -12,47 +12,16 @@ use Rattle.book.specs.Reached.{Reached}
 use Rattle.lines.specs.Lines.{lines}
 use Rattle.file.specs.declared.LoadAnswer.{LoadAnswer}
 use Rattle.file.specs.declared.LoadAnswer.the-variants as answer
-use Rattle.file.specs.declared.LoadRefusal.the-variants as refusal
-use Rattle.file.specs.declared.calls.CallAnswer.{CallAnswer}
-use Rattle.file.specs.declared.calls.CallAnswer.the-variants as call-answer
-use Rattle.file.specs.declared.calls.Called.{Called}
 use Rattle.file.specs.declared.turning.Next.{Next}
 use Rattle.file.specs.declared.turning.Next.the-variants as next
 use Rattle.file.specs.declared.turning.Turn.{Turn}
 use Rattle.file.specs.declared.financing.Financing.{Financing}
 use Rattle.file.specs.Order.{Order, Open, Finance, Later, End, Malformed}
-use Rattle.file.specs.Load.{Outcome, Waiting, None, Waits, accepted, refused, refusalNumber, openingWith, ended, afterOpen, loadFrom}
+use Rattle.file.specs.Load.{Outcome, Waiting, None, Waits, accepted, refused, openingWith, ended, afterCall, afterOpen, afterLine, loadFrom}
 
 -- a share as 32 bits hold it: the greatest for all beyond, which Open refuses just the same
 abbrev pub saturated : ℕ → ℕ
 saturated n = cond (ltb 4294967295 n) 4294967295 n
-
--- A call's number and book
-
-pub record After : Type 0 where
-  pub number : ℕ
-  pub book : Book
-
-abbrev pub after : Book → Call → After
-after b k = record { number = numberOf b k; book = bookAfter b k }
-
-abbrev pub callNumber : CallAnswer → ℕ
-callNumber call-answer.Accepted = 0
-callNumber (call-answer.Refused r) = refusalNumber r
-
-abbrev pub calledStated : Called → After
-calledStated r = record { number = callNumber (r .answer); book = r .book }
-
-abbrev pub unordered : Book → After
-unordered b = record { number = refusalNumber refusal.Line; book = b }
-
--- by a line that neither opens nor ends; F is out of place there
-abbrev pub orderedOf : Book → Order → After
-orderedOf b (Later k) = after b k
-orderedOf b (Open first term annual cents) = unordered b
-orderedOf b (Finance h s) = unordered b
-orderedOf b (End count) = unordered b
-orderedOf b Malformed = unordered b
 
 -- How the load goes on
 
@@ -65,13 +34,37 @@ stopped before (answer.Refused r line) b = refused before line r
 abbrev pub Ends : (n count : ℕ) → Bool → LoadAnswer → Type 0
 Ends n count last r = (before b : Book) → stopped before r b ≡ ended before b n count last
 
--- what is left of file s after a turn
-abbrev pub continuedBy : List ℕ → (before : Book) → Turn → Next → Outcome
-continuedBy s before t next.On = loadFrom before (t .book) None (t .lines) (lines (drop (t .at) s))
-continuedBy s before t (next.Stop a) = stopped before a (t .book)
+-- after a turn: on with its book, or stopped
+abbrev pub wentOn : (before : Book) → (Book → Outcome) → Book → Next → Outcome
+wentOn before rest b next.On = rest b
+wentOn before rest b (next.Stop a) = stopped before a b
 
+-- what is left of file s after a turn
 abbrev pub continued : List ℕ → (before : Book) → Turn → Outcome
-continued s before t = continuedBy s before t (t .next)
+continued s before t = wentOn before (λ b. loadFrom before b None (t .lines) (lines (drop (t .at) s))) (t .book) (t .next)
+
+-- a turn makes a call by line n, which ends at a position
+pub record Calls (b : Book) (k : Call) (at n : ℕ) (t : Turn) : Type 0 where
+  pub same : (before : Book) (rest : Book → Outcome) → afterCall before n (numberOf b k) (bookAfter b k) rest ≡ wentOn before rest (t .book) (t .next)
+  pub reached : Reached (t .book)
+  pub end : t .at ≡ at
+  pub counted : t .lines ≡ n
+
+-- an order that is no call
+abbrev pub NoCall : Order → Type 0
+NoCall (Open first term annual cents) = Unit {0}
+NoCall (Finance h s) = Unit {0}
+NoCall (Later k) = ⊥
+NoCall (End count) = Unit {0}
+NoCall Malformed = Unit {0}
+
+-- a turn does what a line behind n lines does, which ends at a position, where no opening waits
+pub record Continues (s : List ℕ) (b : Book) (order : Order) (at n : ℕ) (t : Turn) : Type 0 where
+  pub same : (before : Book) → afterLine before b n order (eqb at (length s)) (λ after next. loadFrom before after next (n + 1) (lines (drop at s))) ≡ continued s before t
+  pub reached : Reached (t .book)
+  pub ahead : at ≤ t .at
+  pub within : t .at ≤ length s
+  pub counted : t .lines ≤ t .at
 
 -- a turn does what the lines from a position on do, up to where it stands afterwards
 pub record Turns (s : List ℕ) (b : Book) (waiting : Waiting) (at n : ℕ) (t : Turn) : Type 0 where

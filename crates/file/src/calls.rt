@@ -1,10 +1,12 @@
-// The calls that D, R, T and S lines make of the book.
-ghost use mathlib.Core.Path.{_≡_};
+// The calls that D, R, T and S lines make of the book, each by a line with its number and the position behind it. A turn is built once, outside the
+// cases of the answer: wherever it is built, the book is copied.
 ghost use Rattle.book.specs.Call.{Advance, Rate, Transfer, Settle};
 ghost use Rattle.book.specs.Reached.{Reached};
-ghost use Rattle.file.specs.Order.{orderOf};
-ghost use Rattle.file.specs.Computation.{after, calledStated, orderedOf};
+ghost use Rattle.file.specs.Computation.{Calls};
+use crate::LoadAnswer;
 use crate::LoadRefusal;
+use crate::turning::Next;
+use crate::turning::Turn;
 use book::AdvanceAnswer;
 use book::Book;
 use book::Cents;
@@ -12,114 +14,104 @@ use book::Parts;
 use book::RateAnswer;
 use book::SettleAnswer;
 use book::TransferAnswer;
-use lines::Fields;
 
-pub enum CallAnswer {
-    Accepted,
-    Refused(LoadRefusal),
-}
-
-pub struct Called {
-    pub answer: CallAnswer,
-    pub book: Book,
-}
-
-pub fn advance_line(book: Book, date: u32) -> Called
+pub fn advance_line(book: Book, date: u32, at: usize, lines: usize) -> Turn
     requires { ⌜ Reached book ⌝ }
-    ensures { λ r. ⌜ calledStated r ≡ after book (Advance date) ⌝ }
+    ensures { λ r. ⌜ Calls book (Advance date) at lines r ⌝ }
 {
     let advanced = book::advance(book, date);
     let answer = advanced.answer;
     let book = advanced.book;
-    match answer {
-        AdvanceAnswer::Passed(_) => Called {
-            answer: CallAnswer::Accepted,
-            book,
-        },
-        AdvanceAnswer::Refused(refusal) => Called {
-            answer: CallAnswer::Refused(LoadRefusal::Call(refusal)),
-            book,
-        },
+    let next = match answer {
+        AdvanceAnswer::Passed(_) => Next::On,
+        AdvanceAnswer::Refused(refusal) => Next::Stop(LoadAnswer::Refused {
+            refusal: LoadRefusal::Call(refusal),
+            line: lines,
+        }),
+    };
+    Turn {
+        next,
+        book,
+        at,
+        lines,
     }
 }
 
-pub fn rate_line(book: Book, date: u32, annual: u64) -> Called
+pub fn rate_line(book: Book, date: u32, annual: u64, at: usize, lines: usize) -> Turn
     requires { ⌜ Reached book ⌝ }
-    ensures { λ r. ⌜ calledStated r ≡ after book (Rate date annual) ⌝ }
+    ensures { λ r. ⌜ Calls book (Rate date annual) at lines r ⌝ }
 {
     let rated = book::rate(book, date, annual);
     let answer = rated.answer;
     let book = rated.book;
-    match answer {
+    let next = match answer {
         RateAnswer::Revised {
             outstanding: _,
             due: _,
-        } => Called {
-            answer: CallAnswer::Accepted,
-            book,
-        },
-        RateAnswer::Refused(refusal) => Called {
-            answer: CallAnswer::Refused(LoadRefusal::Call(refusal)),
-            book,
-        },
+        } => Next::On,
+        RateAnswer::Refused(refusal) => Next::Stop(LoadAnswer::Refused {
+            refusal: LoadRefusal::Call(refusal),
+            line: lines,
+        }),
+    };
+    Turn {
+        next,
+        book,
+        at,
+        lines,
     }
 }
 
-pub fn transfer_line(book: Book, cedent: u32, assignee: u32, parts: u64) -> Called
+pub fn transfer_line(
+    book: Book,
+    cedent: u32,
+    assignee: u32,
+    parts: u64,
+    at: usize,
+    lines: usize,
+) -> Turn
     requires { ⌜ Reached book ⌝ }
-    ensures { λ r. ⌜ calledStated r ≡ after book (Transfer cedent assignee parts) ⌝ }
+    ensures { λ r. ⌜ Calls book (Transfer cedent assignee parts) at lines r ⌝ }
 {
     let transferred = book::transfer(book, cedent, assignee, Parts(parts));
     let answer = transferred.answer;
     let book = transferred.book;
-    match answer {
-        TransferAnswer::Remaining(_) => Called {
-            answer: CallAnswer::Accepted,
-            book,
-        },
-        TransferAnswer::Refused(refusal) => Called {
-            answer: CallAnswer::Refused(LoadRefusal::Call(refusal)),
-            book,
-        },
+    let next = match answer {
+        TransferAnswer::Remaining(_) => Next::On,
+        TransferAnswer::Refused(refusal) => Next::Stop(LoadAnswer::Refused {
+            refusal: LoadRefusal::Call(refusal),
+            line: lines,
+        }),
+    };
+    Turn {
+        next,
+        book,
+        at,
+        lines,
     }
 }
 
-pub fn settle_line(book: Book, cents: u64) -> Called
+pub fn settle_line(book: Book, cents: u64, at: usize, lines: usize) -> Turn
     requires { ⌜ Reached book ⌝ }
-    ensures { λ r. ⌜ calledStated r ≡ after book (Settle cents) ⌝ }
+    ensures { λ r. ⌜ Calls book (Settle cents) at lines r ⌝ }
 {
     let settled = book::settle(book, Cents(cents));
     let answer = settled.answer;
     let book = settled.book;
-    match answer {
+    let next = match answer {
         SettleAnswer::Taken {
             interest: _,
             principal: _,
-        } => Called {
-            answer: CallAnswer::Accepted,
-            book,
-        },
-        SettleAnswer::Refused(refusal) => Called {
-            answer: CallAnswer::Refused(LoadRefusal::Call(refusal)),
-            book,
-        },
-    }
-}
-
-// A line that neither opens nor ends. F is out of place there.
-pub fn call_line(book: Book, f: Fields) -> Called
-    requires { ⌜ Reached book ⌝ }
-    ensures { λ r. ⌜ calledStated r ≡ orderedOf book (orderOf f) ⌝ }
-{
-    let letter = f.letter;
-    match letter {
-        b'D' => advance_line(book, f.date),
-        b'R' => rate_line(book, f.date, f.third),
-        b'T' => transfer_line(book, f.first, f.second, f.third),
-        b'S' => settle_line(book, f.third),
-        _ => Called {
-            answer: CallAnswer::Refused(LoadRefusal::Line),
-            book,
-        },
+        } => Next::On,
+        SettleAnswer::Refused(refusal) => Next::Stop(LoadAnswer::Refused {
+            refusal: LoadRefusal::Call(refusal),
+            line: lines,
+        }),
+    };
+    Turn {
+        next,
+        book,
+        at,
+        lines,
     }
 }

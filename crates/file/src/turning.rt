@@ -1,21 +1,19 @@
-// One turn of a load: a line, or an O line with its F lines.
+// The turns of a load, and those of the lines that make no call: O with its F lines, E, and F where no opening waits.
 ghost use Prim.Native.Nat.{_+_, _≤_, _<_, _^_};
 ghost use lib.ListN.{length};
 ghost use mathlib.Core.List.{[]};
 ghost use Rattle.book.specs.Reached.{Reached};
-ghost use Rattle.file.specs.Load.{None, Waits, openingWith};
-ghost use Rattle.file.specs.Computation.{Ends, Turns};
+ghost use Rattle.file.specs.Load.{Waits, openingWith};
+ghost use Rattle.file.specs.Order.{orderOf};
+ghost use Rattle.file.specs.Computation.{Ends, Turns, NoCall, Continues};
 use crate::LoadAnswer;
 use crate::LoadRefusal;
-use crate::calls::CallAnswer;
-use crate::calls::call_line;
 use crate::financing::gather;
 use book::Book;
 use book::Cents;
 use book::Day;
 use book::OpenAnswer;
 use lines::Fields;
-use lines::ReadAnswer;
 
 pub enum Next {
     On,
@@ -101,56 +99,31 @@ pub fn ending(count: u64, lines: usize, last: bool) -> LoadAnswer
     LoadAnswer::Accepted(lines)
 }
 
-// The line at a position, behind so many lines.
-pub fn line_turn(file: &[u8], book: Book, at: usize, lines: usize) -> Turn
+// A line that makes no call, behind so many lines, with the position behind it.
+pub fn other_turn(file: &[u8], book: Book, f: Fields, at: usize, lines: usize) -> Turn
     requires { ⌜ Reached book ⌝ }
-    requires { ⌜ (at < length (now file)) × (lines ≤ at) ⌝ }
-    ensures { λ r. ⌜ (Turns (now (file .entry)) book None at lines r) × (at < r .at) ⌝ }
+    requires { ⌜ (at ≤ length (now file)) × (lines < at) × NoCall (orderOf f) ⌝ }
+    ensures { λ r. ⌜ Continues (now (file .entry)) book (orderOf f) at lines r ⌝ }
 {
-    let step = lines::read_from(file, at);
-    let line = step.line;
-    let next = step.at;
-    let ReadAnswer::Read(f) = line else {
-        return Turn {
-            next: Next::Stop(LoadAnswer::Refused {
-                refusal: LoadRefusal::Line,
-                line: lines + 1,
-            }),
-            book,
-            at: next,
-            lines: lines + 1,
-        };
-    };
     if f.letter == b'O' {
-        return open_turn(file, book, f, next, lines + 1);
+        return open_turn(file, book, f, at, lines + 1);
     }
     if f.letter == b'E' {
-        let answer = ending(f.third, lines, next == file.len());
+        let answer = ending(f.third, lines, at == file.len());
         return Turn {
             next: Next::Stop(answer),
             book,
-            at: next,
+            at,
             lines: lines + 1,
         };
     }
-    let called = call_line(book, f);
-    let answer = called.answer;
-    let after = called.book;
-    match answer {
-        CallAnswer::Accepted => Turn {
-            next: Next::On,
-            book: after,
-            at: next,
-            lines: lines + 1,
-        },
-        CallAnswer::Refused(refusal) => Turn {
-            next: Next::Stop(LoadAnswer::Refused {
-                refusal,
-                line: lines + 1,
-            }),
-            book: after,
-            at: next,
-            lines: lines + 1,
-        },
+    Turn {
+        next: Next::Stop(LoadAnswer::Refused {
+            refusal: LoadRefusal::Line,
+            line: lines + 1,
+        }),
+        book,
+        at,
+        lines: lines + 1,
     }
 }

@@ -1,7 +1,7 @@
 -- Each answer of Advance, by its case.
 use borrow.Author.Needs.{needs}
 use Rattle.book.specs.Outcome.{advanceCase}
-use Rattle.file.proofs.CallAnswers.{told}
+use Rattle.file.proofs.CallAnswers.{told, call-accepted, call-refused}
 use Rattle.file.proofs.calls.advance_line.Statement.{statement}
 use Rattle.file.proofs.calls.advance_line.Tie as tie
 use Rattle.book.proofs.advance.Reads as advance-reads
@@ -16,10 +16,14 @@ enum-known-answer : tie.Need-enum-known-answer
 enum-known-answer c = search needs
 
 returns : tie.Need-returns
-returns c = told advanceCase _ _ _ _ (c .enum-told .given .1) (c .before .before .before .advance .ensures)
+returns c =
+    let k = c .before .before .before in
+    call-accepted _ (k .before .pre) _ _ _ _ (told advanceCase _ _ _ _ (c .enum-told .given .1) (k .advance .ensures))
 
 returns-2 : tie.Need-returns-2
-returns-2 c = told advanceCase _ _ _ _ (c .before .answer .given .1) (c .before .before .before .before .advance .ensures)
+returns-2 c =
+    let k = c .before .before .before .before in
+    call-refused _ (k .before .pre) _ _ _ _ _ (told advanceCase _ _ _ _ (c .before .answer .given .1) (k .advance .ensures))
 
 pub advance-line-spec : {M : Type 1} → statement M
 advance-line-spec = tie.close (tie.spec advance-requires enum-told enum-known-answer returns returns-2)
