@@ -16,10 +16,34 @@ pub enum DayCount {
     NoDate,
 }
 
+impl DayCount {
+    // Its number in document 01's table, 0 for a date.
+    pub fn number(self) -> u32
+        ensures { λ r. ⌜ r ≡ countStated self .0 ⌝ }
+    {
+        match self {
+            DayCount::Day(_) => 0,
+            DayCount::NoDate => NO_DATE,
+        }
+    }
+}
+
 // A date and a count of days added up.
 pub enum DateSum {
     Date(u32),
     Refused,
+}
+
+impl DateSum {
+    // Its number in document 01's table, 0 for a sum.
+    pub fn number(self) -> u32
+        ensures { λ r. ⌜ r ≡ sumStated self .0 ⌝ }
+    {
+        match self {
+            DateSum::Date(_) => 0,
+            DateSum::Refused => NO_DATE,
+        }
+    }
 }
 
 // The days from one date to another, negative where the other is earlier.
@@ -27,6 +51,21 @@ pub enum DaysBetween {
     Days(i64),
     NotDates,
 }
+
+impl DaysBetween {
+    // Its number in document 01's table, 0 for two dates.
+    pub fn number(self) -> u32
+        ensures { λ r. ⌜ r ≡ betweenStated self .0 ⌝ }
+    {
+        match self {
+            DaysBetween::Days(_) => 0,
+            DaysBetween::NotDates => NO_DATE,
+        }
+    }
+}
+
+// The number of what is not a date.
+const NO_DATE: u32 = 3;
 
 const FIRST_DATE: u32 = 20000101;
 

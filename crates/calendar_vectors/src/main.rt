@@ -77,38 +77,41 @@ fn put_years() {
 }
 
 // The number of a refusal, and no value.
-fn put_refused(end: u8) {
-    cases::put(3, b' ');
+fn put_refused(number: u32, end: u8) {
+    cases::put(number as u64, b' ');
     cases::put(0, end);
 }
 
 fn put_count(date: u32) {
-    match calendar::day_count(date) {
+    let answer = calendar::day_count(date);
+    match answer {
         DayCount::Day(day) => {
             cases::put(0, b' ');
             cases::put(day as u64, b' ');
         }
-        DayCount::NoDate => put_refused(b' '),
+        DayCount::NoDate => put_refused(answer.number(), b' '),
     }
 }
 
 fn put_sum(date: u32, days: u32) {
-    match calendar::plus_days(date, days) {
+    let answer = calendar::plus_days(date, days);
+    match answer {
         DateSum::Date(sum) => {
             cases::put(0, b' ');
             cases::put(sum as u64, b' ');
         }
-        DateSum::Refused => put_refused(b' '),
+        DateSum::Refused => put_refused(answer.number(), b' '),
     }
 }
 
 fn put_between(from: u32, to: u32) {
-    match calendar::days_between(from, to) {
+    let answer = calendar::days_between(from, to);
+    match answer {
         DaysBetween::Days(days) => {
             cases::put(0, b' ');
             cases::put_signed(days, b'\n');
         }
-        DaysBetween::NotDates => put_refused(b'\n'),
+        DaysBetween::NotDates => put_refused(answer.number(), b'\n'),
     }
 }
 

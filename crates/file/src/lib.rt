@@ -28,7 +28,7 @@ impl LoadRefusal {
     {
         match self {
             LoadRefusal::Empty => 20,
-            LoadRefusal::Line => 21,
+            LoadRefusal::Line => lines::MALFORMED,
             LoadRefusal::Unfinished => 22,
             LoadRefusal::Call(refusal) => refusal.number(),
         }

@@ -7,16 +7,12 @@ use file::LoadAnswer;
 use libc::STDIN_FILENO;
 use lines::Fields;
 use lines::ReadAnswer;
-use lines::WriteAnswer;
 
 // The most bytes of the input.
 const INPUT: usize = 524288;
 
 // The most bytes of a buffer that a line is written into.
 const BUFFER: usize = 100;
-
-// The number of a malformed line.
-const MALFORMED: u64 = 21;
 
 // The book after a case, and the position behind the case.
 struct Step {
@@ -91,10 +87,8 @@ fn load(book: Book, file: &[u8]) -> Book
 
 // Writes a line into a buffer, and prints its number and the buffer's digest.
 fn write(buffer: &mut [u8], f: Fields) {
-    match lines::write_line(buffer, f) {
-        WriteAnswer::Written => cases::put(0, b' '),
-        WriteAnswer::Malformed => cases::put(MALFORMED, b' '),
-    }
+    let answer = lines::write_line(buffer, f);
+    cases::put(answer.number() as u64, b' ');
     cases::put(cases::digest(buffer), b'\n');
 }
 
@@ -139,10 +133,11 @@ fn put_fields(number: u64, f: Fields) {
 }
 
 fn read(line: &[u8]) {
-    match lines::read_line(line) {
+    let answer = lines::read_line(line);
+    match answer {
         ReadAnswer::Read(f) => put_fields(0, f),
         ReadAnswer::Malformed => put_fields(
-            MALFORMED,
+            answer.number() as u64,
             Fields {
                 letter: 0,
                 date: 0,

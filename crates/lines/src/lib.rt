@@ -13,6 +13,9 @@ pub use crate::reading::read_from;
 pub use crate::reading::reader_at;
 pub use crate::write::put_number;
 pub use crate::write::write_line;
+ghost use mathlib.Core.Path.{_≡_};
+ghost use Rattle.lines.specs.Line.{readStated};
+ghost use Rattle.lines.specs.Write.{writeStated};
 ghost use Rattle.lines.specs.RoundTrip.{RoundTrip};
 ghost use Rattle.lines.specs.LineParts.{LineParts};
 ghost use Rattle.lines.specs.Examples.{Examples};
@@ -31,10 +34,37 @@ pub enum ReadAnswer {
     Malformed,
 }
 
+impl ReadAnswer {
+    // Its number in document 01's table, 0 for a line.
+    pub fn number(self) -> u32
+        ensures { λ r. ⌜ r ≡ readStated self .0 ⌝ }
+    {
+        match self {
+            ReadAnswer::Read(_) => 0,
+            ReadAnswer::Malformed => MALFORMED,
+        }
+    }
+}
+
 pub enum WriteAnswer {
     Written,
     Malformed,
 }
+
+impl WriteAnswer {
+    // Its number in document 01's table, 0 for a line.
+    pub fn number(self) -> u32
+        ensures { λ r. ⌜ r ≡ writeStated self ⌝ }
+    {
+        match self {
+            WriteAnswer::Written => 0,
+            WriteAnswer::Malformed => MALFORMED,
+        }
+    }
+}
+
+// The number of a line that is not in its form, and of a buffer that is too short.
+pub const MALFORMED: u32 = 21;
 
 // Where a part of a file begins, and the position behind it.
 pub struct Bounds {

@@ -15,15 +15,11 @@ const REFUSED: [u64; 7] = [
 // The line of an annual rate.
 fn put_rate(annual: u64) {
     cases::put(annual, b' ');
-    match rates::daily_rate(annual) {
-        DailyRate::Daily(daily) => {
-            cases::put(0, b' ');
-            cases::put(daily, b'\n');
-        }
-        DailyRate::Refused => {
-            cases::put(6, b' ');
-            cases::put(0, b'\n');
-        }
+    let answer = rates::daily_rate(annual);
+    cases::put(answer.number() as u64, b' ');
+    match answer {
+        DailyRate::Daily(daily) => cases::put(daily, b'\n'),
+        DailyRate::Refused => cases::put(0, b'\n'),
     }
 }
 

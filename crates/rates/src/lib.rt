@@ -16,6 +16,18 @@ pub enum DailyRate {
     Refused,
 }
 
+impl DailyRate {
+    // Its number in document 01's table, 0 for a rate.
+    pub fn number(self) -> u32
+        ensures { λ r. ⌜ r ≡ rateStated self .0 ⌝ }
+    {
+        match self {
+            DailyRate::Daily(_) => 0,
+            DailyRate::Refused => 6,
+        }
+    }
+}
+
 pub fn daily_rate(annual: u64) -> DailyRate
     ensures { λ r. ⌜ rateStated r ≡ rateOf annual ⌝ }
 {

@@ -12,11 +12,9 @@ const INPUT: usize = 262144;
 // The most bytes of a buffer.
 const BUFFER: usize = 4000;
 
-// The number of a buffer that is too short.
-const SHORT: u64 = 21;
-
 fn put_report(file: &[u8], buffer: &mut [u8]) {
-    match report::report(file, buffer) {
+    let answer = report::report(file, buffer);
+    match answer {
         Reported::Printed(count) => {
             cases::put(0, b' ');
             cases::put(count as u64, b' ');
@@ -24,7 +22,7 @@ fn put_report(file: &[u8], buffer: &mut [u8]) {
             io::write_all(STDOUT_FILENO, &buffer[..count]);
         }
         Reported::Short => {
-            cases::put(SHORT, b' ');
+            cases::put(answer.number() as u64, b' ');
             cases::put(0, b' ');
             cases::put(cases::digest(buffer), b'\n');
         }

@@ -17,8 +17,8 @@ use Rattle.report.proofs.report.Reads as report-reads
 report-requires : tie.Need-report-requires
 report-requires c κs = search needs
 
-enum-known-count : tie.Need-enum-known-count
-enum-known-count c = search needs
+enum-known-answer : tie.Need-enum-known-answer
+enum-known-answer c = search needs
 
 put-requires : tie.Need-put-requires
 put-requires c κs = search needs
@@ -32,10 +32,10 @@ digest-requires c κs = search needs
 put-requires-3 : tie.Need-put-requires-3
 put-requires-3 c κs = search needs
 
-printed : (c : tie.After-known-told) → c .before .count .given .0 .0 ≤ length (c .before .before .before .before .before .report .last .1 .0)
+printed : (c : tie.After-known-told) → c .before .answer .given .0 .0 ≤ length (c .before .before .before .before .before .report .last .1 .0)
 printed c =
     let r = c .before .before .before .before .before .report in
-    printed-within _ _ _ (r .result) (r .ensures .0) (r .ensures .1) _ (c .before .count .given .1)
+    printed-within _ _ _ (r .result) (r .ensures .0) (r .ensures .1) _ (c .before .answer .given .1)
 
 slice-reshare-prefix-write-all : tie.Need-slice-reshare-prefix-write-all
 slice-reshare-prefix-write-all c = printed (c .before .before .before .before .before)
@@ -48,6 +48,12 @@ write-all-requires c κs = search needs
 
 enum-told : tie.Need-enum-told
 enum-told c = search needs
+
+number-requires : tie.Need-number-requires
+number-requires c κs = search needs
+
+cast-put : tie.Need-cast-put
+cast-put c = search needs
 
 put-requires-4 : tie.Need-put-requires-4
 put-requires-4 c κs = search needs
@@ -78,7 +84,7 @@ put-report-spec =
     tie.close
     (tie.spec
     report-requires
-    enum-known-count
+    enum-known-answer
     put-requires
     put-requires-2
     digest-requires
@@ -87,6 +93,8 @@ put-report-spec =
     slice-aggregate-write-all
     write-all-requires
     enum-told
+    number-requires
+    cast-put
     put-requires-4
     put-requires-5
     digest-requires-2
