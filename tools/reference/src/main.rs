@@ -1,35 +1,12 @@
 //! Prints expected outputs, worked out from the paper alone. See README.md.
 
-mod agree;
-mod apportionment;
-mod big;
-mod book;
-mod calendar;
-mod call_cases;
-mod calls;
-mod compare;
-mod file;
-mod file_calls;
-mod file_cases;
-mod line;
-mod lists;
-mod load_time;
-mod order_text;
-mod random;
-mod random_files;
-mod rates;
-mod refusal;
-mod report_cases;
-mod statement;
-mod tally;
-mod vectors;
-
 use std::fs;
 use std::io::{self, Write};
 use std::process::ExitCode;
 
-use compare::Pace;
-use load_time::load_time;
+use reference::compare::Pace;
+use reference::load_time::load_time;
+use reference::{agree, compare, file_cases, statement, vectors};
 
 const USAGE: &str = "\
 usage: reference rates | calendar-cases | calendar | apportionment-cases | apportionment
