@@ -90,7 +90,7 @@ abbrev pub FromStart : List RateOrder → ℕ → Type 0
 FromStart [] today = ⊥
 FromStart (o ∷ os) today = (o .first .0 ≡ 0) × Rising 0 os today
 
--- of n orders the one at a place holds on a day: it has begun, and the next begins no earlier
+-- of n orders the one at a place holds up to a day: it has begun, and the next begins no earlier; it may begin on that day
 abbrev pub Holding : ℕ → List RateOrder → (at day : ℕ) → Type 0
 Holding n orders at day =
     (at < n) × (getD orders at noOrder .first .0 ≤ day) × (at + 1 < n → day ≤ getD orders (at + 1) noOrder .first .0)

@@ -73,13 +73,13 @@ pub fn pay(account: Account, cents: Cents) -> Account
     }
 }
 
-// The account on a day, and the place of an order that holds there.
+// The account on a day, and the place of the order that holds up to it.
 pub struct Elapsed {
     pub account: Account,
     pub at: usize,
 }
 
-// The interest of the days from `from` up to `end`, order by order; the order at `place` holds on `from`.
+// The interest of the days from `from` up to `end`, order by order; the order at `place` holds up to `from`.
 pub fn elapse(
     account: Account,
     rates: [RateOrder; Book::RATES],

@@ -46,7 +46,7 @@ pub struct Settlement {
     pub cents: Cents,
 }
 
-// An annual rate, in thousandths of a percent, from its first day on; and its daily rate, looked up once.
+// An annual rate, in thousandths of a percent, from its first day on; and its daily rate, in units of 1/10^10, which follows from it.
 pub struct RateOrder {
     pub first: Day,
     pub annual: u64,
@@ -104,10 +104,10 @@ impl Refusal {
         match self {
             Refusal::Unopened => 1,
             Refusal::AlreadyOpen => 2,
-            Refusal::Date => 3,
+            Refusal::Date => calendar::NO_DATE,
             Refusal::Term => 4,
             Refusal::Amount => 5,
-            Refusal::Rate => 6,
+            Refusal::Rate => rates::OVER,
             Refusal::Financing => 7,
             Refusal::Day => 8,
             Refusal::SettlementPending => 9,

@@ -78,7 +78,7 @@ fn replay(
         principal_paid: Cents(0),
         interest_paid: Cents(0),
     };
-    // The order at place `at` holds on day `from`.
+    // The order at place `at` holds up to day `from`.
     let mut from = Day(0);
     let mut at: usize = 0;
     let mut i: usize = 0;

@@ -87,7 +87,7 @@ fn pay_out(
     pay_positions(positions, count, portions)
 }
 
-// What is answered, alone.
+// What Settle answers.
 fn taking(book: Book, cents: Cents) -> SettleAnswer
     requires { ⌜ Sound book ⌝ }
     ensures { λ r. ⌜ settleCase r ≡ settled book cents .answer ⌝ }

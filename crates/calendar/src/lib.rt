@@ -65,7 +65,7 @@ impl DaysBetween {
 }
 
 // The number of what is not a date.
-const NO_DATE: u32 = 3;
+pub const NO_DATE: u32 = 3;
 
 const FIRST_DATE: u32 = 20000101;
 

@@ -45,7 +45,8 @@ pub extern "C" fn taborumbra_check(
     number_in(answer)
 }
 
-// The statement of a file at a buffer's start, and its length. A buffer under `Reported::BYTES` is left as it was.
+// The statement of a file at a buffer's start, and its length; a refused file's is its X line, answered with 0 too. A buffer under
+// `Reported::BYTES` is answered with 21 and left as it was.
 #[no_mangle]
 pub extern "C" fn taborumbra_statement(file: &[u8], out: &mut [u8], length: &mut usize) -> u32
     ensures { λ r. ⌜ r ≡ reportOf (now (file .entry)) (now (out .entry)) .0 .0 ⌝ }

@@ -50,7 +50,7 @@ pub record Calls (b : Book) (k : Call) (at n : ℕ) (t : Turn) : Type 0 where
   pub end : t .at ≡ at
   pub counted : t .lines ≡ n
 
--- an order that is no call
+-- an order that is no call behind the opening
 abbrev pub NoCall : Order → Type 0
 NoCall (Open first term annual cents) = Unit {0}
 NoCall (Finance h s) = Unit {0}

@@ -1,4 +1,4 @@
-// The turns of a load, and those of the lines that make no call: O with its F lines, E, and F where no opening waits.
+// The turns of a load, and those of the lines other than D, R, T and S: O with its F lines, E, and F where no opening waits.
 ghost use Prim.Native.Nat.{_+_, _≤_, _<_, _^_};
 ghost use lib.ListN.{length};
 ghost use mathlib.Core.List.{[]};
@@ -99,7 +99,7 @@ pub fn ending(count: u64, lines: usize, last: bool) -> LoadAnswer
     LoadAnswer::Accepted(lines)
 }
 
-// A line that makes no call, behind so many lines, with the position behind it.
+// A line other than D, R, T and S, behind so many lines, with the position behind it.
 pub fn other_turn(file: &[u8], book: Book, f: Fields, at: usize, lines: usize) -> Turn
     requires { ⌜ Reached book ⌝ }
     requires { ⌜ (at ≤ length (now file)) × (lines < at) × NoCall (orderOf f) ⌝ }

@@ -10,6 +10,9 @@ use crate::table::DAILY;
 // The greatest annual rate, in thousandths of a percent.
 pub const GREATEST: u64 = 4000;
 
+// The number of a rate over it.
+pub const OVER: u32 = 6;
+
 // A daily rate, in units of 1/10^10.
 pub enum DailyRate {
     Daily(u64),
@@ -23,7 +26,7 @@ impl DailyRate {
     {
         match self {
             DailyRate::Daily(_) => 0,
-            DailyRate::Refused => 6,
+            DailyRate::Refused => OVER,
         }
     }
 }

@@ -1,5 +1,5 @@
 -- `elapse` meets its contract. The loop's invariant: the account is that of the days up to `day`, each at its own rate, and the order at `at`
--- holds there.
+-- holds up to it.
 use Prim.Native.Nat.{ℕ, _+_, _-_, _≤_, _<_}
 use native.Mathlib.Omega.{arith}
 use mathlib.Core.Logic.{⊎-elim}
