@@ -1,12 +1,17 @@
-/* The collection-rights book for C and C++: the exported functions of libcapi.a (x86-64).
+/* The collection-rights book for C and C++: the exported functions of libcapi.a.
+ *
+ * For x86-64 with the System V calling convention (Linux, ELF). Link libcapi.a with the program; of other libraries it needs only memcpy and
+ * memset. The code is position-independent.
  *
  * Every function answers the number of the table below, 0 for accepted. All checking is inside: each call ends, whatever bytes and numbers it gets.
  *
  * Bytes are a pointer and their count; the pointer may be NULL where the count is 0.
- * Results come through pointers, the slots: none may be NULL, they must be distinct objects, and each is always written, with 0 where a refusal has no
- * value for it. A buffer that is written may overlap neither a slot nor bytes that are read, and bytes that are read may overlap no slot.
- * A refusal leaves the written buffer as it was. A call keeps no state, so that several threads may call at once, each with slots and written
- * buffers of its own. It takes no memory but the stack, about 100 KiB for the first two functions and 16 KiB for the daily rate.
+ * Results come through pointers, the slots: none may be NULL, they must be distinct objects, and each is always written, with 0 where a refusal
+ * has no value for it. A buffer that is written may overlap neither a slot nor bytes that are read, and bytes that are read may overlap no slot.
+ * A refusal leaves the written buffer as it was.
+ * No pointer is kept after a call, and nothing is to be freed. Bytes that are read must not change during the call; several calls may read the
+ * same ones. A call keeps no state, so that several threads may call at once, each with slots and written buffers of its own.
+ * It takes no memory but the stack: at most 108 KiB for the first two functions, 16 KiB for the daily rate, and 1 KiB for the others.
  */
 #ifndef TABORUMBRA_H
 #define TABORUMBRA_H
@@ -36,7 +41,8 @@ enum taborumbra_number {
     TABORUMBRA_NO_DAY_HELD = 13,        /* Settle with no day since the last settlement */
     TABORUMBRA_OVERPAID = 14,           /* Settle: more than due plus outstanding; Rate: some past settlement would be */
     TABORUMBRA_EMPTY_FILE = 20,         /* no byte */
-    TABORUMBRA_LINE = 21,               /* not in the form of a line; a writer's fields that make no line, or a short buffer */
+    TABORUMBRA_LINE = 21,               /* not in the form of a line, or an F line behind neither O nor F; a writer's fields that make no line;
+                                         * a short buffer */
     TABORUMBRA_UNFINISHED = 22          /* no E line, its count wrong, or bytes after it */
 };
 
@@ -46,19 +52,23 @@ enum taborumbra_number {
 /* A line: 42 columns and a line feed. */
 #define TABORUMBRA_LINE_BYTES 43
 
-/* Loads an order file on an empty book.
+/* Loads an order file on an empty book. The file is taken whole, however long; the program `statement` takes 65,536 bytes.
  * Accepted: 0; line 0; start and end the file's length; count the lines before E.
  * Refused: the number; line the refused line's, from 1; start its first byte's position in the file, and end the position behind its last one;
- * count 0. For 20, and 22 without an E line, the part is empty, at the file's end. */
+ * count 0. A refused opening names its O line, a 65th F line itself, and bytes after E the line that they begin. For 20, and 22 without an E line,
+ * the part is empty, at the file's end, and its line is the lines before it plus 1. */
 uint32_t taborumbra_check(const uint8_t *file, size_t file_bytes, size_t *line, size_t *start, size_t *end, size_t *count);
 
-/* Writes the statement of an order file, loaded on an empty book, at out's start.
- * 0: length is the statement's, and bytes of out behind it are left as they were. A refused file's statement is its X line, with 0 here too; a file that
- * leaves the book empty has a statement of length 0.
+/* Writes the statement of an order file, loaded on an empty book, at out's start. The file is taken whole here too.
+ * 0: length is the statement's, and bytes of out behind it are left as they were. A refused file's statement is its X line, with 0 here too; a
+ * file that leaves the book empty has a statement of length 0.
  * 21: out_bytes is under TABORUMBRA_STATEMENT_BYTES; length 0, out as it was. */
 uint32_t taborumbra_statement(const uint8_t *file, size_t file_bytes, uint8_t *out, size_t out_bytes, size_t *length);
 
-/* Reads one line, with its line feed, as its fields. One that the letter doesn't use is 0.
+/* The fields of a line. O: date, first term, second rate, third cents. F: first holder, third share. D: date. R: date, third rate. T: first cedent,
+ * second assignee, third parts. S: third cents. E: third the lines before it. The letter is its ASCII byte. A field that it doesn't use is 0. */
+
+/* Reads one line, with its line feed, as its fields.
  * 0: the fields. 21: the line is malformed, and every field is 0. */
 uint32_t taborumbra_read_line(const uint8_t *line, size_t line_bytes, uint8_t *letter, uint32_t *date, uint32_t *first, uint32_t *second,
                               uint64_t *third);

@@ -3,7 +3,8 @@
  * Build and run it with one command:  examples/c/run FILE
  * which is: cc -Iinclude examples/c/month.c target/staticlib/libcapi.a -o target/month && target/month FILE
  *
- * The exit code is 0 for an accepted file, 1 for a refused one, and 2 for one that can't be read. */
+ * The exit code is 0 for an accepted file, 1 for a refused one, 2 if the file can't be read or has no statement, and 3, of examples/c/run alone, if
+ * the program isn't built. */
 #include <stdio.h>
 #include <stdlib.h>
 
@@ -30,7 +31,7 @@ static const char *trade_word(uint32_t number)
     case TABORUMBRA_EMPTY_FILE: return "empty file";
     case TABORUMBRA_LINE: return "line";
     case TABORUMBRA_UNFINISHED: return "unfinished";
-    default: return "accepted";
+    default: return "unknown";
     }
 }
 
@@ -71,7 +72,8 @@ static int print_month(const uint8_t *file, size_t bytes)
     }
     uint8_t statement[TABORUMBRA_STATEMENT_BYTES];
     size_t length;
-    taborumbra_statement(file, bytes, statement, sizeof statement, &length);
+    if (taborumbra_statement(file, bytes, statement, sizeof statement, &length) != TABORUMBRA_ACCEPTED)
+        return 2;
     fwrite(statement, 1, length, stdout);
     return 0;
 }

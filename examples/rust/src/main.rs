@@ -2,8 +2,9 @@
 //!
 //! Build and run it with one command:  examples/rust/run FILE
 //!
-//! The exit code is 0 for an accepted file, 1 for a refused one, and 2 for one
-//! that can't be read.
+//! The exit code is 0 for an accepted file, 1 for a refused one, 2 if the file
+//! can't be read, has no statement or the text can't be written, and 3, of
+//! examples/rust/run alone, if the program isn't built.
 
 mod taborumbra;
 
@@ -31,7 +32,7 @@ fn main() -> ExitCode {
 /// What is printed, and the exit code.
 fn month(file: &[u8]) -> (Vec<u8>, u8) {
     let refused = match taborumbra::check(file) {
-        Ok(_) => return (taborumbra::statement(file), 0),
+        Ok(_) => return statement(file),
         Err(refused) => refused,
     };
     let word = taborumbra::trade_word(refused.number);
@@ -40,4 +41,11 @@ fn month(file: &[u8]) -> (Vec<u8>, u8) {
         refused.number, refused.line
     );
     ([text.as_bytes(), &file[refused.part]].concat(), 1)
+}
+
+fn statement(file: &[u8]) -> (Vec<u8>, u8) {
+    match taborumbra::statement(file) {
+        Ok(text) => (text, 0),
+        Err(_) => (Vec::new(), 2),
+    }
 }

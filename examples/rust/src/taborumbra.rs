@@ -57,11 +57,12 @@ pub fn check(file: &[u8]) -> Result<usize, Refused> {
     }
 }
 
-/// The statement of a file; a refused one's is its X line.
-pub fn statement(file: &[u8]) -> Vec<u8> {
+/// The statement of a file; a refused one's is its X line. The error is the number
+/// of another answer than accepted.
+pub fn statement(file: &[u8]) -> Result<Vec<u8>, u32> {
     let mut out = vec![0; STATEMENT_BYTES];
     let mut length = 0;
-    unsafe {
+    let number = unsafe {
         taborumbra_statement(
             file.as_ptr(),
             file.len(),
@@ -71,7 +72,10 @@ pub fn statement(file: &[u8]) -> Vec<u8> {
         )
     };
     out.truncate(length);
-    out
+    match number {
+        0 => Ok(out),
+        _ => Err(number),
+    }
 }
 
 /// A refusal's trade word.
@@ -94,6 +98,6 @@ pub fn trade_word(number: u32) -> &'static str {
         20 => "empty file",
         21 => "line",
         22 => "unfinished",
-        _ => "accepted",
+        _ => "unknown",
     }
 }

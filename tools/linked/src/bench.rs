@@ -3,15 +3,12 @@
 use std::hint::black_box;
 
 use reference::book::Book;
-use reference::calendar::Calendar;
 use reference::file::load;
-use reference::line::{self, Fields};
-use reference::random::Random;
-use reference::{rates, statement};
+use reference::statement;
 
 use crate::exported::{self, STATEMENT_BYTES};
 use crate::files;
-use crate::random_calls;
+use crate::small_calls::{self, Inputs};
 use crate::stack;
 use crate::timing::{in_turns, Times};
 
@@ -24,8 +21,8 @@ reference, of these medians; behind it stands the same of the least times. Befor
 is timed, what both give is compared. A statement is file bytes in, statement bytes out.
 The buffer that it goes into is allocated once, the same for both, and not cleared between
 calls.
-Rows with * : the reference goes day by day there, and for each rate order through all
-days since the first.";
+The reference goes day by day wherever days pass, and for each rate order through all days
+since the first; rows with * consist of little else.";
 
 pub fn bench() {
     println!("{EXPLANATION}");
@@ -41,15 +38,9 @@ fn statements() {
     let row = |name: &str, files: &[Vec<u8>]| {
         print_row(name, &statement_times(files), files.len());
     };
-    row("longest file, 1524 lines", &[files::longest()]);
-    row(
-        "978 rate orders, 5280 days *",
-        &[files::rates(files::most_rates())],
-    );
-    row(
-        "1458 transfers, 64 holders",
-        &[files::transfers(files::LINES)],
-    );
+    for (name, file) in long_files() {
+        row(&name, &[file]);
+    }
     let damaged = files::damaged();
     let (short, long): (Vec<_>, Vec<_>) = damaged
         .iter()
@@ -70,79 +61,81 @@ fn checks() {
     let row = |name: &str, files: &[Vec<u8>]| {
         print_row(name, &check_times(files), files.len());
     };
-    row("longest file, 1524 lines", &[files::longest()]);
-    row(
-        "978 rate orders, 5280 days *",
-        &[files::rates(files::most_rates())],
-    );
-    row(
-        "1458 transfers, 64 holders",
-        &[files::transfers(files::LINES)],
-    );
-    row("501 damaged files", &files::damaged());
+    for (name, file) in long_files() {
+        row(&name, &[file]);
+    }
+    let damaged = files::damaged();
+    row(&format!("{} damaged files", damaged.len()), &damaged);
     for cents in [127, 64] {
         let files = files::ten_thousand_settlements(cents);
         row(&format!("10000 settlements of {cents} cents"), &files);
     }
 }
 
-/// Each over so many prepared inputs.
-const INPUTS: u64 = 4_096;
-
-fn small_calls() {
-    heading("Small calls, each over 4096 prepared inputs, one in eight of them refused");
-    let mut random = Random::seeded(4_096, 0);
-    let refused = |number: u64| number.is_multiple_of(8);
-
-    let annuals: Vec<u64> = (0..INPUTS)
-        .map(|number| match refused(number) {
-            true => 4_001 + random.of_any_size(u64::MAX - 4_001),
-            false => random.between(0, 4_000),
-        })
-        .collect();
-    print_row("daily_rate", &rate_times(&annuals), annuals.len());
-
-    let sums: Vec<(u32, u32)> = (0..INPUTS)
-        .map(|number| match refused(number) {
-            true => (random.between(0, 30_000_000) as u32, 80_000),
-            false => (files_day(&mut random), random.between(0, 6_000) as u32),
-        })
-        .collect();
-    print_row("plus_days", &sum_times(&sums), sums.len());
-
-    let all_fields: Vec<Fields> = (0..INPUTS)
-        .map(|number| match refused(number) {
-            true => random_calls::any_fields(&mut random),
-            false => random_calls::good_fields(&mut random),
-        })
-        .collect();
-    print_row("write_line", &write_times(&all_fields), all_fields.len());
-
-    let lines: Vec<Vec<u8>> = (0..INPUTS)
-        .map(|number| match refused(number) {
-            true => random_calls::any_line(&mut random),
-            false => random_calls::good_line(&mut random),
-        })
-        .collect();
-    print_row("read_line", &read_times(&lines), lines.len());
+/// The longest file, and the ones with the most rate orders and transfers.
+fn long_files() -> [(String, Vec<u8>); 3] {
+    let (lines, rates, transfers) = (files::LINES, files::most_rates(), files::most_transfers());
+    let (days, holders) = (files::RATE_DAYS, files::HOLDERS);
+    [
+        (format!("longest file, {lines} lines"), files::longest()),
+        (
+            format!("{rates} rate orders, {days} days *"),
+            files::rates(rates),
+        ),
+        (
+            format!("{transfers} transfers, {holders} holders"),
+            files::transfers(lines),
+        ),
+    ]
 }
 
-/// A date from 20000101 to 21790314, so that 6,000 days more are one too.
-fn files_day(random: &mut Random) -> u32 {
-    let days = random.between(0, 65_000) as u32;
-    Calendar::gregorian()
-        .plus_days(20000101, days)
-        .expect("a date")
+fn small_calls() {
+    let count = small_calls::COUNT;
+    heading(&format!(
+        "Small calls, each over {count} prepared inputs, at most one in eight of them refused"
+    ));
+    let inputs = Inputs::prepared();
+    let times = over_all(
+        &inputs.annuals,
+        small_calls::our_rate,
+        small_calls::reference_rate,
+    );
+    print_row("daily_rate", &times, count);
+    let times = over_all(
+        &inputs.sums,
+        small_calls::our_sum,
+        small_calls::reference_sum,
+    );
+    print_row("plus_days", &times, count);
+    let times = over_all(
+        &inputs.fields,
+        small_calls::our_written,
+        small_calls::reference_written,
+    );
+    print_row("write_line", &times, count);
+    let times = over_all(
+        &inputs.lines,
+        |line| small_calls::our_read(line),
+        |line| small_calls::reference_read(line),
+    );
+    print_row("read_line", &times, count);
 }
 
 fn growth() {
-    heading("Growth by lines: 64 holders, then transfers");
+    heading(&format!(
+        "Growth by lines: {} holders, then transfers",
+        files::HOLDERS
+    ));
     for lines in [100, 300, 500, 1_000, 1_500] {
         let times = statement_times(&[files::transfers(lines)]);
         print_row(&format!("{lines} lines"), &times, 1);
     }
 
-    heading("Growth by rate orders, behind 240 settlements over 5280 days *");
+    heading(&format!(
+        "Growth by rate orders, behind {} settlements over {} days *",
+        files::SETTLEMENTS,
+        files::RATE_DAYS
+    ));
     let without = statement_times(&[files::rates(0)]);
     print_row("none", &without, 1);
     for count in [1, 10, 25, 50, 100] {
@@ -163,32 +156,74 @@ fn growth() {
     }
 }
 
-fn peak_stack() {
-    println!(
-        "\nPeak stack, in bytes: the deepest byte that a call wrote below its caller's frame,"
-    );
-    println!("in a thread whose stack was filled with a pattern before.");
+pub fn peak_stack() {
+    println!("\nPeak stack, in bytes: the deepest byte that the calls of a row wrote below their");
+    println!("caller's frame, in a thread whose stack was filled with a pattern before.");
     println!("{:32}{:>12}{:>14}", "", "ours", "reference");
-    for (name, file) in [
-        ("longest file, statement", files::longest()),
-        (
-            "978 rate orders, statement",
-            files::rates(files::most_rates()),
-        ),
-        ("1458 transfers, statement", files::transfers(files::LINES)),
-    ] {
-        let ours = stack::peak(|| our_statement(&file));
-        let reference = stack::peak(|| reference_statement(&file));
-        println!("{name:32}{ours:12}{reference:14}");
+    let mut kinds = long_files()
+        .map(|(name, file)| (name.replace(" *", ""), vec![file]))
+        .to_vec();
+    let damaged = files::damaged();
+    kinds.push((format!("{} damaged files", damaged.len()), damaged));
+    println!("Statements");
+    for (name, files) in &kinds {
+        let ours = |file: &Vec<u8>| our_statement(file);
+        peak_row(name, files, ours, |file| reference_statement(file));
     }
-    let file = files::longest();
+    println!("Checks");
+    for (name, files) in &kinds {
+        let ours = |file: &Vec<u8>| our_check(file);
+        peak_row(name, files, ours, |file| reference_check(file));
+    }
+    println!("Small calls");
+    small_peaks();
+}
+
+fn small_peaks() {
+    let inputs = Inputs::prepared();
+    peak_row(
+        "daily_rate",
+        &inputs.annuals,
+        small_calls::our_rate,
+        small_calls::reference_rate,
+    );
+    peak_row(
+        "plus_days",
+        &inputs.sums,
+        small_calls::our_sum,
+        small_calls::reference_sum,
+    );
+    peak_row(
+        "write_line",
+        &inputs.fields,
+        small_calls::our_written,
+        small_calls::reference_written,
+    );
+    peak_row(
+        "read_line",
+        &inputs.lines,
+        |line| small_calls::our_read(line),
+        |line| small_calls::reference_read(line),
+    );
+}
+
+fn peak_row<Input: Sync, Answer>(
+    name: &str,
+    inputs: &[Input],
+    ours: impl Fn(&Input) -> Answer + Sync,
+    reference: impl Fn(&Input) -> Answer + Sync,
+) {
     let ours = stack::peak(|| {
-        black_box(our_check(&file));
+        for input in inputs {
+            black_box(ours(black_box(input)));
+        }
     });
     let reference = stack::peak(|| {
-        black_box(reference_check(&file));
+        for input in inputs {
+            black_box(reference(black_box(input)));
+        }
     });
-    println!("{:32}{ours:12}{reference:14}", "longest file, check");
+    println!("{name:32}{ours:12}{reference:14}");
 }
 
 fn our_statement(file: &[u8]) {
@@ -267,92 +302,6 @@ fn reference_check(file: &[u8]) -> Checked {
 
 fn check_times(files: &[Vec<u8>]) -> Times {
     over_all(files, |file| our_check(file), |file| reference_check(file))
-}
-
-fn rate_times(annuals: &[u64]) -> Times {
-    over_all(
-        annuals,
-        |&annual| {
-            let mut daily = u64::MAX;
-            let number = exported::daily_rate(annual, &mut daily);
-            (number, daily)
-        },
-        |&annual| match rates::daily(annual) {
-            Ok(daily) => (0, daily),
-            Err(refusal) => (refusal.number(), 0),
-        },
-    )
-}
-
-fn sum_times(sums: &[(u32, u32)]) -> Times {
-    over_all(
-        sums,
-        |&(date, days)| {
-            let mut sum = u32::MAX;
-            let number = exported::plus_days(date, days, &mut sum);
-            (number, sum)
-        },
-        |&(date, days)| match Calendar::gregorian().plus_days(date, days) {
-            Ok(sum) => (0, sum),
-            Err(refusal) => (refusal.number(), 0),
-        },
-    )
-}
-
-/// The fields of no line.
-const NOTHING: Fields = Fields {
-    letter: 0,
-    date: 0,
-    first: 0,
-    second: 0,
-    third: 0,
-};
-
-fn read_times(lines: &[Vec<u8>]) -> Times {
-    over_all(
-        lines,
-        |bytes| {
-            let mut fields = NOTHING;
-            let number = exported::read_line(
-                bytes,
-                &mut fields.letter,
-                &mut fields.date,
-                &mut fields.first,
-                &mut fields.second,
-                &mut fields.third,
-            );
-            (number, fields)
-        },
-        |bytes| match line::read(bytes) {
-            Ok(fields) => (0, fields),
-            Err(refusal) => (refusal.number(), NOTHING),
-        },
-    )
-}
-
-fn write_times(all_fields: &[Fields]) -> Times {
-    over_all(
-        all_fields,
-        |fields| {
-            let mut out = [0; line::LENGTH];
-            let Fields {
-                letter,
-                date,
-                first,
-                second,
-                third,
-            } = *fields;
-            let number = exported::write_line(letter, date, first, second, third, &mut out);
-            (number, out)
-        },
-        |fields| {
-            let mut out = [0; line::LENGTH];
-            match line::write(fields, &mut out) {
-                Ok(()) => (0, out),
-                Err(refusal) => (refusal.number(), out),
-            }
-        },
-    )
 }
 
 /// Both ways over all the inputs, after a comparison of their answers.

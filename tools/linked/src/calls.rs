@@ -2,6 +2,7 @@
 
 use std::collections::BTreeMap;
 
+use crate::call::{Answer, Call};
 use crate::random_calls::Author;
 
 /// As many faults as are told.
@@ -11,21 +12,26 @@ const TOLD: usize = 10;
 pub struct Report {
     pub passed: u64,
     pub failed: u64,
-    /// For each function how often it was answered with which number.
+    /// For each function how often which number was expected.
     numbers: BTreeMap<&'static str, BTreeMap<u32, u64>>,
     pub faults: Vec<String>,
 }
 
 pub fn calls(count: u64, seed: u64) -> Report {
+    compared(count, seed, Call::ours)
+}
+
+/// Calls that are answered in some way.
+fn compared(count: u64, seed: u64, answer: impl Fn(&Call) -> Answer) -> Report {
     let author = Author::new();
     let mut report = Report::default();
     for number in 0..count {
         let call = author.call(seed, number);
         let expected = call.expected();
-        let ours = call.ours();
+        let answered = answer(&call);
         report.count(call.name(), expected.number);
-        report.judge(ours == expected, || {
-            format!("call {number}: {call:?}\nexpected {expected:?}\nanswered {ours:?}")
+        report.judge(answered == expected, || {
+            format!("call {number}: {call:?}\nexpected {expected:?}\nanswered {answered:?}")
         });
     }
     report
@@ -71,6 +77,8 @@ impl Report {
 #[cfg(test)]
 mod tests {
     use super::*;
+    use crate::call::Room;
+    use std::cell::Cell;
 
     #[test]
     fn as_printed() {
@@ -106,5 +114,84 @@ mod tests {
         for number in [0, 1, 20, 21, 22] {
             assert!(report.numbers["taborumbra_check"].contains_key(&number));
         }
+    }
+
+    /// The calls whose answer was changed fail, and no others. `change` answers
+    /// whether there was something to change.
+    fn changed_ones_fail(change: impl Fn(&Call, &mut Answer) -> bool) {
+        let changed = Cell::new(0);
+        let report = compared(500, 5, |call| {
+            let mut answer = call.ours();
+            changed.set(changed.get() + u64::from(change(call, &mut answer)));
+            answer
+        });
+        assert!(changed.get() > 0);
+        assert_eq!(report.failed, changed.get());
+        assert_eq!(report.passed, 500 - changed.get());
+    }
+
+    fn room(call: &Call) -> Option<&Room> {
+        match call {
+            Call::Statement { room, .. } | Call::WriteLine { room, .. } => Some(room),
+            _ => None,
+        }
+    }
+
+    fn flip(answer: &mut Answer, place: usize) -> bool {
+        answer.buffer[place] ^= 1;
+        true
+    }
+
+    #[test]
+    fn another_number_fails() {
+        changed_ones_fail(|_, answer| {
+            answer.number += 1;
+            true
+        });
+    }
+
+    #[test]
+    fn another_slot_fails() {
+        for place in 0..5 {
+            changed_ones_fail(|_, answer| match answer.slots.get_mut(place) {
+                Some(slot) => {
+                    *slot += 1;
+                    true
+                }
+                None => false,
+            });
+        }
+    }
+
+    #[test]
+    fn another_byte_of_the_buffer_fails() {
+        changed_ones_fail(|call, answer| match room(call) {
+            Some(room) if room.start < room.end => flip(answer, room.start),
+            _ => false,
+        });
+        changed_ones_fail(|call, answer| match room(call) {
+            Some(room) if room.start < room.end => flip(answer, room.end - 1),
+            _ => false,
+        });
+    }
+
+    #[test]
+    fn another_byte_beside_the_buffer_fails() {
+        changed_ones_fail(|call, answer| match room(call) {
+            Some(room) => flip(answer, room.start - 1),
+            None => false,
+        });
+        changed_ones_fail(|call, answer| match room(call) {
+            Some(room) => flip(answer, room.end),
+            None => false,
+        });
+    }
+
+    #[test]
+    fn another_byte_elsewhere_fails() {
+        changed_ones_fail(|_, answer| {
+            answer.rest_kept = false;
+            true
+        });
     }
 }

@@ -9,8 +9,8 @@ use crate::damage;
 /// The lines of the longest file that the statement program takes whole.
 pub const LINES: u64 = 1_524;
 
-const HOLDERS: u32 = 64;
-const SETTLEMENTS: u32 = 240;
+pub const HOLDERS: u32 = 64;
+pub const SETTLEMENTS: u32 = 240;
 const RECOGNISED: u64 = 354_054_743_000;
 
 /// 1,524 lines: 64 holders, 240 settlements, 720 transfers, 18 rates.
@@ -37,10 +37,18 @@ pub fn transfers(lines: u64) -> Vec<u8> {
     whole(orders).into_bytes()
 }
 
+/// As many transfers as the longest file has room for, beside O, F and E lines.
+pub fn most_transfers() -> u64 {
+    LINES - u64::from(1 + HOLDERS + 1)
+}
+
 /// Over 15 years: a settlement every so many days. The cents fall short of the
 /// recognised ones, so that no rate makes one of them too much.
 const DAYS_A_SETTLEMENT: u32 = 22;
 const CENTS_A_SETTLEMENT: u64 = 1_400_000_000;
+
+/// The days of all of them.
+pub const RATE_DAYS: u32 = DAYS_A_SETTLEMENT * SETTLEMENTS;
 
 /// 64 holders, 240 settlements over 5,280 days, then so many rate orders. Their
 /// dates go up through the years in steps, 15 of them, and begin anew: up to 16
@@ -53,10 +61,9 @@ pub fn rates(count: u64) -> Vec<u8> {
         orders += &advance(day(DAYS_A_SETTLEMENT * number));
         orders += &settle(CENTS_A_SETTLEMENT);
     }
-    let days = DAYS_A_SETTLEMENT * SETTLEMENTS;
     for number in 0..count {
         let step = (number % u64::from(STEPS)) as u32 + 1;
-        let date = day(days * step / (STEPS + 1));
+        let date = day(RATE_DAYS * step / (STEPS + 1));
         orders += &rate(date, random.between(1_500, 2_500));
     }
     whole(orders).into_bytes()
@@ -135,7 +142,8 @@ pub fn line_count(file: &[u8]) -> u64 {
     file.iter().filter(|&&byte| byte == b'\n').count() as u64
 }
 
-/// The files of a case by its word, each an accepted one or, if damaged, not.
+/// The files of a case by its word. They are accepted; most damaged ones are
+/// refused.
 pub fn of_case(word: &str) -> Option<Vec<Vec<u8>>> {
     match word {
         "paper" => Some(vec![PAPER.as_bytes().to_vec()]),
@@ -154,6 +162,7 @@ mod tests {
     use super::*;
     use reference::book::Book;
     use reference::file::load;
+    use reference::line::LENGTH;
     use reference::statement::statement;
 
     fn accepted(file: &[u8]) -> u64 {
@@ -166,6 +175,13 @@ mod tests {
         assert_eq!(accepted(&rates(most_rates())), LINES);
         for lines in [100, 300, 500, 1_000, 1_500, LINES] {
             assert_eq!(accepted(&transfers(lines)), lines);
+        }
+        for (letter, file, count) in [
+            (b'R', rates(most_rates()), most_rates()),
+            (b'T', transfers(LINES), most_transfers()),
+        ] {
+            let lines = file.chunks(LENGTH).filter(|line| line[0] == letter);
+            assert_eq!(lines.count() as u64, count);
         }
         assert_eq!(accepted(&months(1)), 10);
         assert_eq!(accepted(&months(12)), 54);

@@ -9,6 +9,7 @@ mod exported;
 mod files;
 mod once;
 mod random_calls;
+mod small_calls;
 mod stack;
 mod threads;
 mod timing;
@@ -22,6 +23,7 @@ const USAGE: &str = "\
 usage: linked calls N SEED
        linked threads N SEED
        linked bench
+       linked stack
        linked once CASE ours|reference
 cases: paper longest rates transfers damaged cents-127 cents-64";
 
@@ -33,6 +35,10 @@ fn main() -> ExitCode {
         ["threads", count, seed] => report_of(threads::threads, count, seed),
         ["bench"] => {
             bench::bench();
+            ExitCode::SUCCESS
+        }
+        ["stack"] => {
+            bench::peak_stack();
             ExitCode::SUCCESS
         }
         ["once", case, side] => match (files::of_case(case), Side::of_word(side)) {

@@ -12,9 +12,9 @@ const THREADS: usize = 8;
 /// Calls that are kept at a time.
 const CHUNK: u64 = 1_000;
 
-/// Each thread makes all calls of a chunk, and begins with another one; the files
-/// and lines are lent to all, the buffers are each thread's own. A call passes
-/// if every thread has the one thread's answer.
+/// Each thread makes all calls of a chunk, and begins with another one; all lend
+/// the same bytes of files and lines, and buffers and slots are each thread's own.
+/// A call passes if every thread has the one thread's answer.
 pub fn threads(count: u64, seed: u64) -> Report {
     let author = Author::new();
     let mut report = Report::default();
