@@ -1,9 +1,41 @@
 -- The holders placed in an empty book and the other parts set make the new book.
+use Prim.Native.Nat.{ℕ}
+use mathlib.Core.Bool.{true}
+use mathlib.Core.List.{List, _++_}
+use mathlib.Core.Path.{_≡_, ap}
 use borrow.Author.Needs.{needs}
+use lib.ListN.{length, drop, set}
+use Rattle.rates.specs.Rate.{dailyOf}
+use Rattle.book.specs.declared.Book.{Book}
+use Rattle.book.specs.declared.Cents.{Cents}
+use Rattle.book.specs.declared.Day.{Day}
 use Rattle.book.specs.Book.{emptyBook, withHeld, opening}
-use Rattle.book.specs.Open.{newBook}
+use Rattle.book.specs.Open.{founded, newBook}
 use Rattle.book.proofs.opening.new_book.Statement.{statement}
 use Rattle.book.proofs.opening.new_book.Tie as tie
+
+module _ (first : ℕ) (term : Day) (annual : ℕ) (cents : Cents) (hs ss : List ℕ) where
+  -- the new book, with a daily rate stored
+  abbrev storing : ℕ → Book
+  storing daily =
+      record {
+        opened = true;
+        first = first;
+        term = term;
+        today = record { 0 = 0 };
+        recognised = cents;
+        account = opening (cents .0);
+        count = length (founded hs ss);
+        positions = founded hs ss ++ drop (length (founded hs ss)) (emptyBook .positions);
+        settled = 0;
+        settlements = emptyBook .settlements;
+        rated = 1;
+        rates = set (emptyBook .rates) 0 (record { first = record { 0 = 0 }; annual = annual; daily = daily });
+      }
+
+  stored : (daily : ℕ) → daily ≡ dailyOf annual → storing daily ≡ newBook first term annual cents hs ss
+  unfolding newBook
+  stored daily is = ap storing is
 
 daily-rate-requires : tie.Need-daily-rate-requires
 daily-rate-requires c κs = search needs
@@ -19,8 +51,8 @@ element-set-from-next : tie.Need-element-set-from-next
 element-set-from-next c = search needs
 
 returns : tie.Need-returns
-unfolding newBook withHeld opening emptyBook
-returns c = rw (c .place-holders .ensures, c .before .empty .ensures, c .before .before .daily-rate .ensures)
+unfolding withHeld opening emptyBook
+returns c = rw (c .place-holders .ensures, c .before .empty .ensures) (stored _ _ _ _ _ _ _ (c .before .before .daily-rate .ensures))
 
 pub new-book-spec : {M : Type 1} → statement M
 new-book-spec = tie.close (tie.spec daily-rate-requires empty-requires place-holders-requires element-set-from-next returns)
