@@ -1,268 +1,31 @@
-// The book of one collection right (document 01, "The book"): its calls and its readers. A book goes in by value and comes back by value.
-// That it equals the tally after every list of calls is the theorem of the crate `conservation`.
-mod accrual;
-mod advancing;
-mod opening;
-mod positions;
-mod rating;
-mod reading;
-mod settling;
-mod transferring;
-
-pub use crate::advancing::advance;
-pub use crate::opening::open_book;
-pub use crate::rating::rate;
-pub use crate::reading::position_at;
-pub use crate::reading::position_of;
-pub use crate::reading::totals;
-pub use crate::settling::settle;
-pub use crate::transferring::transfer;
-ghost use mathlib.Core.Path.{_≡_};
-ghost use Rattle.book.specs.Book.{emptyBook};
-ghost use Rattle.book.specs.Outcome.{refusalNumber};
-
-// Money, in whole cents.
-pub struct Cents(pub u64);
-
-// A difference of money, in whole cents.
-pub struct CentsChange(pub i64);
-
-// Share parts: 1,000,000 are the whole right.
-pub struct Parts(pub u64);
-
-// A day of the right, counted from its first day, day 0; or a count of days.
-pub struct Day(pub u32);
-
-// A holder's share today, its unit-days since the last settlement and the cash it has received.
-pub struct Position {
-    pub holder: u32,
-    pub share: Parts,
-    pub unit_days: u64,
-    pub received: Cents,
-}
-
-pub struct Settlement {
-    pub day: Day,
-    pub cents: Cents,
-}
-
-// An annual rate, in thousandths of a percent, from its first day on; and its daily rate, in units of 1/10^10, which follows from it.
-pub struct RateOrder {
-    pub first: Day,
-    pub annual: u64,
-    pub daily: u64,
-}
-
-// The money of a right: the fraction of a cent of interest due is in units of 1/10^10.
-pub struct Account {
-    pub outstanding: Cents,
-    pub due: Cents,
-    pub fraction: u64,
-    pub principal_paid: Cents,
-    pub interest_paid: Cents,
-}
-
-// One collection right, or none. The first day is a date; positions stand in order of first appearance.
-pub struct Book {
-    opened: bool,
-    first: u32,
-    term: Day,
-    today: Day,
-    recognised: Cents,
-    account: Account,
-    count: usize,
-    positions: [Position; Book::POSITIONS],
-    settled: usize,
-    settlements: [Settlement; Book::SETTLEMENTS],
-    rated: usize,
-    rates: [RateOrder; Book::RATES],
-}
-
-// Why a call is refused, in document 01's trade words.
-pub enum Refusal {
-    Unopened,
-    AlreadyOpen,
-    Date,
-    Term,
-    Amount,
-    Rate,
-    Financing,
-    Day,
-    SettlementPending,
-    Holder,
-    Share,
-    BookFull,
-    NoDayHeld,
-    Overpaid,
-}
-
-impl Refusal {
-    // Its number in document 01's table.
-    pub fn number(self) -> u32
-        ensures { λ r. ⌜ r ≡ refusalNumber self ⌝ }
-    {
-        match self {
-            Refusal::Unopened => 1,
-            Refusal::AlreadyOpen => 2,
-            Refusal::Date => calendar::NO_DATE,
-            Refusal::Term => 4,
-            Refusal::Amount => 5,
-            Refusal::Rate => rates::OVER,
-            Refusal::Financing => 7,
-            Refusal::Day => 8,
-            Refusal::SettlementPending => 9,
-            Refusal::Holder => 10,
-            Refusal::Share => 11,
-            Refusal::BookFull => 12,
-            Refusal::NoDayHeld => 13,
-            Refusal::Overpaid => 14,
-        }
-    }
-}
-
-pub enum OpenAnswer {
-    Accepted,
-    Refused(Refusal),
-}
-
-pub struct Opened {
-    pub answer: OpenAnswer,
-    pub book: Book,
-}
-
-// The number of days passed.
-pub enum AdvanceAnswer {
-    Passed(Day),
-    Refused(Refusal),
-}
-
-pub struct Advanced {
-    pub answer: AdvanceAnswer,
-    pub book: Book,
-}
-
-// The cedent's remaining share.
-pub enum TransferAnswer {
-    Remaining(Parts),
-    Refused(Refusal),
-}
-
-pub struct Transferred {
-    pub answer: TransferAnswer,
-    pub book: Book,
-}
-
-// The interest and the principal that a settlement took.
-pub enum SettleAnswer {
-    Taken { interest: Cents, principal: Cents },
-    Refused(Refusal),
-}
-
-pub struct Settled {
-    pub answer: SettleAnswer,
-    pub book: Book,
-}
-
-// How a revised rate changed outstanding and interest due.
-pub enum RateAnswer {
-    Revised {
-        outstanding: CentsChange,
-        due: CentsChange,
-    },
-    Refused(Refusal),
-}
-
-pub struct Rated {
-    pub answer: RateAnswer,
-    pub book: Book,
-}
-
-pub enum PositionAnswer {
-    Held(Position),
-    Refused(Refusal),
-}
-
-// The position at a place in book order, and how many there are.
-pub enum PlaceAnswer {
-    Placed { count: usize, position: Position },
-    Refused(Refusal),
-}
-
-// Today is a date.
-pub enum TotalsAnswer {
-    Totals { today: u32, account: Account },
-    Refused(Refusal),
-}
-
-impl Book {
-    // The most positions, settlements and stored rates, and the most days from one settlement to the next.
-    pub const POSITIONS: usize = 64;
-
-    pub const SETTLEMENTS: usize = 240;
-
-    pub const RATES: usize = 16;
-
-    pub const SETTLEMENT_DAYS: u32 = 92;
-
-    // The longest term, in days.
-    const LONGEST_TERM: u32 = 6000;
-
-    // The latest date that a right begins on.
-    const LAST_FIRST_DAY: u32 = 20991231;
-
-    // The most cents that a right is recognised with.
-    const GREATEST_RECOGNISED: u64 = 1000000000000;
-
-    // The most cents of one settlement.
-    const GREATEST_PAYMENT: u64 = 100000000000;
-
-    // The greatest number of a holder.
-    const GREATEST_HOLDER: u32 = 999999999;
-
-    // The parts of the whole right.
-    const WHOLE: u64 = 1000000;
-
-    pub fn empty() -> Book
-        ensures { λ r. ⌜ r ≡ emptyBook ⌝ }
-    {
-        let position = Position {
-            holder: 0,
-            share: Parts(0),
-            unit_days: 0,
-            received: Cents(0),
-        };
-        let settlement = Settlement {
-            day: Day(0),
-            cents: Cents(0),
-        };
-        let order = RateOrder {
-            first: Day(0),
-            annual: 0,
-            daily: 0,
-        };
-        let account = Account {
-            outstanding: Cents(0),
-            due: Cents(0),
-            fraction: 0,
-            principal_paid: Cents(0),
-            interest_paid: Cents(0),
-        };
-        let positions = [position; Book::POSITIONS];
-        let settlements = [settlement; Book::SETTLEMENTS];
-        let rates = [order; Book::RATES];
-        Book {
-            opened: false,
-            first: 0,
-            term: Day(0),
-            today: Day(0),
-            recognised: Cents(0),
-            account: account,
-            count: 0,
-            positions: positions,
-            settled: 0,
-            settlements: settlements,
-            rated: 0,
-            rates: rates,
-        }
-    }
-}
+// The book of one collection right (document 01, "The book"): everything that a program calls, from the crates that have it. A book goes in by
+// value and comes back by value. That it equals the tally after every list of calls is the theorem of the crate `conservation`.
+pub use account::Account;
+pub use account::Cents;
+pub use account::Day;
+pub use book_advance::advance;
+pub use book_model::AdvanceAnswer;
+pub use book_model::Advanced;
+pub use book_model::Book;
+pub use book_model::CentsChange;
+pub use book_model::OpenAnswer;
+pub use book_model::Opened;
+pub use book_model::Parts;
+pub use book_model::PlaceAnswer;
+pub use book_model::Position;
+pub use book_model::PositionAnswer;
+pub use book_model::RateAnswer;
+pub use book_model::Rated;
+pub use book_model::Refusal;
+pub use book_model::SettleAnswer;
+pub use book_model::Settled;
+pub use book_model::TotalsAnswer;
+pub use book_model::TransferAnswer;
+pub use book_model::Transferred;
+pub use book_open::open_book;
+pub use book_rate::rate;
+pub use book_read::position_at;
+pub use book_read::position_of;
+pub use book_read::totals;
+pub use book_settle::settle;
+pub use book_transfer::transfer;

@@ -1,5 +1,5 @@
 // What the programs that run test vectors print of a book. No contract can say what is printed.
-ghost use Rattle.book.specs.Reached.{Reached};
+ghost use Rattle.book_model.specs.Reached.{Reached};
 use book::Book;
 use book::Position;
 use book::Refusal;

@@ -2,7 +2,7 @@
 ghost use Prim.Native.Nat.{_≤_};
 ghost use mathlib.Core.Path.{_≡_};
 ghost use lib.ListN.{length};
-ghost use Rattle.book.specs.Reached.{Reached};
+ghost use Rattle.book_model.specs.Reached.{Reached};
 use book::AdvanceAnswer;
 use book::Book;
 use book::Cents;

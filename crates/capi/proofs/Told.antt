@@ -2,8 +2,8 @@
 use mathlib.Core.Path.{_≡_, refl, ap, _∙_}
 use mathlib.Core.List.{List}
 use Prim.Native.Nat.{ℕ}
-use Rattle.book.specs.declared.Book.{Book}
-use Rattle.book.specs.Book.{emptyBook}
+use Rattle.book_model.specs.declared.Book.{Book}
+use Rattle.book_model.specs.Book.{emptyBook}
 use Rattle.file.specs.declared.LoadAnswer.{LoadAnswer}
 use Rattle.file.specs.declared.LoadAnswer.the-variants as answer
 use Rattle.file.specs.Load.{Outcome, answered, lineNamed, partStart, partEnd}

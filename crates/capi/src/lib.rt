@@ -3,7 +3,7 @@
 mod values;
 
 ghost use mathlib.Core.Path.{_≡_};
-ghost use Rattle.book.specs.Book.{emptyBook};
+ghost use Rattle.book_model.specs.Book.{emptyBook};
 ghost use Rattle.calendar.specs.Answers.{sumOf};
 ghost use Rattle.file.specs.Load.{loadOf};
 ghost use Rattle.lines.specs.Line.{lineOf};

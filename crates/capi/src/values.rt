@@ -1,6 +1,6 @@
 // What an answer of the crates below holds, 0 in each value where it is a refusal.
 ghost use mathlib.Core.Path.{_≡_};
-ghost use Rattle.book.specs.Book.{emptyBook};
+ghost use Rattle.book_model.specs.Book.{emptyBook};
 ghost use Rattle.calendar.specs.Answers.{sumStated};
 ghost use Rattle.file.specs.Load.{answered};
 ghost use Rattle.lines.specs.Line.{readStated};

@@ -5,13 +5,11 @@ use native.Mathlib.Nat.{min-le-right}
 use mathlib.Core.Path.{_≡_, refl, ap}
 use mathlib.Core.List.{List}
 use mathlib.Core.Option.{Option, none, some}
-use Rattle.book.specs.declared.Account.{Account}
-use Rattle.book.specs.declared.RateOrder.{RateOrder}
-use Rattle.book.specs.declared.Settlement.{Settlement}
-use Rattle.book.specs.Accrual.{accruedDay, paidOff}
-use Rattle.book.specs.Book.{opening}
-use Rattle.book.specs.Schedule.{dailyOn}
-use Rattle.book.specs.Standing.{settledOn, payingOff, dayBegins, accountAt}
+use Rattle.account.specs.declared.Account.{Account}
+use Rattle.account.specs.declared.Settlement.{Settlement}
+use Rattle.account.specs.Accrual.{accruedDay, paidOff}
+use Rattle.account.specs.Opening.{opening}
+use Rattle.account.specs.Standing.{settledOn, payingOff, dayBegins, accountAt}
 use Rattle.conservation.specs.Tally.{Sums, noSums, dueOf, outstandingOf, paying, elapsing, before, through}
 
 pub record SameFigures (cents : ℕ) (a : Account) (s : Sums) : Type 0 where
@@ -80,8 +78,8 @@ begins-agrees cents daily paid (suc day) =
     day-agrees cents (daily day) _ _ (paid-agrees cents (paid day) _ _ (begins-agrees cents daily paid day))
 
 -- also where a settlement is over
-pub account-is-tally : (cents : ℕ) (orders : List RateOrder) (settlements : List Settlement) (day : ℕ)
-    → SameFigures cents (accountAt cents orders settlements day) (through cents (dailyOn orders) (settledOn settlements) day)
+pub account-is-tally : (cents : ℕ) (daily : ℕ → ℕ) (settlements : List Settlement) (day : ℕ)
+    → SameFigures cents (accountAt cents daily settlements day) (through cents daily (settledOn settlements) day)
 unfolding accountAt through
-account-is-tally cents orders settlements day =
-    paid-agrees cents (settledOn settlements day) _ _ (begins-agrees cents (dailyOn orders) (settledOn settlements) day)
+account-is-tally cents daily settlements day =
+    paid-agrees cents (settledOn settlements day) _ _ (begins-agrees cents daily (settledOn settlements) day)

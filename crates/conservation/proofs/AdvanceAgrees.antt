@@ -3,17 +3,17 @@ use Prim.Native.Nat.{ℕ, suc, _+_, _*_}
 use native.Mathlib.Omega.{arith}
 use mathlib.Core.Path.{_≡_, sym, ap, subst, _∙_}
 use mathlib.Core.List.{map, map-map}
-use Rattle.book.specs.declared.Book.{Book}
-use Rattle.book.specs.Advance.{daysPassed}
-use Rattle.book.specs.Computation.{daysHeld}
-use Rattle.book.specs.Sound.{OpenSound, Sound}
-use Rattle.book.specs.Call.{Opening}
+use Rattle.book_model.specs.declared.Book.{Book}
+use Rattle.book_model.specs.Advance.{daysPassed}
+use Rattle.book_model.specs.Computation.{daysHeld}
+use Rattle.book_model.specs.Sound.{OpenSound, Sound}
+use Rattle.book_model.specs.Call.{Opening}
 use Rattle.conservation.specs.Tally.{Tally, advance, dayOfDate, shareToday, shareDays, lastBefore, weight, portionOn, received}
-use Rattle.book.proofs.Accepted.{AdvanceRight, daysTo}
+use Rattle.book_model.proofs.Accepted.{AdvanceRight, daysTo}
 use Rattle.conservation.proofs.Agreement.{Agrees, positionOf, unitDaysOf, none-ahead}
 use Rattle.conservation.proofs.ByHolder.{position-same}
 use Rattle.conservation.proofs.Members.{map-same}
-use Rattle.book.proofs.Steps.{AdvanceStep, advance-step}
+use Rattle.book_model.proofs.Steps.{AdvanceStep, advance-step}
 use Rattle.conservation.proofs.TallyDays.{sum-further, last-most, last-further, share-days-further}
 
 -- n days more

@@ -5,16 +5,16 @@ use mathlib.Core.Path.{_≡_, refl, ap, _∙_}
 use mathlib.Core.Bool.{true, false}
 use mathlib.Core.List.{map, map-map}
 use mathlib.Core.Option.{none, some}
-use Rattle.book.specs.declared.Book.{Book}
-use Rattle.book.specs.declared.Position.{Position}
-use Rattle.book.specs.Book.{held, settlementsOf}
-use Rattle.book.specs.Open.{distinct}
-use Rattle.book.specs.Positions.{holders, shares, unitDays, receipts, total, among}
-use Rattle.book.specs.Sound.{OpenSound}
-use Rattle.book.specs.Standing.{settledOn}
+use Rattle.book_model.specs.declared.Book.{Book}
+use Rattle.book_model.specs.declared.Position.{Position}
+use Rattle.book_model.specs.Book.{held, settlementsOf}
+use Rattle.book_model.specs.Open.{distinct}
+use Rattle.book_model.specs.Positions.{holders, shares, unitDays, receipts, total, among}
+use Rattle.book_model.specs.Sound.{OpenSound}
+use Rattle.account.specs.Standing.{settledOn}
 use Rattle.conservation.specs.Tally.{Tally, shareToday, shareDays, lastBefore, weight, received}
 use Rattle.conservation.proofs.ByHolder.{positionWith, holders-are}
-use Rattle.book.proofs.SettledDays.{none-after-today, none-yet}
+use Rattle.account.proofs.SettledDays.{none-after-today, none-yet}
 use Rattle.conservation.proofs.TallyDays.{weights-some}
 
 -- a holder's unit-days: its shares from the last settlement's day (or day 0) to the day before today

@@ -8,13 +8,13 @@ use mathlib.Core.List.{List, [], _∷_, map}
 use borrow.Author.Tests.{eqb-true, eqb-false, eq-eqb, ne-eqb, lt-ltb, le-ltb}
 use lib.Dec.{eqb, ltb}
 use lib.ListN.{length, length-map}
-use Rattle.book.specs.declared.Position.{Position}
-use Rattle.book.specs.Book.{fresh}
-use Rattle.book.specs.Open.{distinct, founded}
-use Rattle.book.specs.Positions.{place, present, shareOf, change, paidPosition, paidFrom, holders, among}
+use Rattle.book_model.specs.declared.Position.{Position}
+use Rattle.book_model.specs.Book.{fresh}
+use Rattle.book_model.specs.Open.{distinct, founded}
+use Rattle.book_model.specs.Positions.{place, present, shareOf, change, paidPosition, paidFrom, holders, among}
 use Rattle.conservation.specs.Tally.{listed}
 use Rattle.conservation.specs.Tally as tally
-use Rattle.book.proofs.Cases.{true-not-false, neither-true}
+use Rattle.book_model.proofs.Cases.{true-not-false, neither-true}
 use Rattle.conservation.proofs.Members.{member-other, first-apart, map-same, place-within, place-without}
 
 -- positions are the same where their numbers are

@@ -5,25 +5,25 @@ use mathlib.Core.Path.{_≡_, ap, _∙_}
 use mathlib.Core.Bool.{false, cond}
 use borrow.Author.Tests.{ne-eqb}
 use lib.Dec.{eqb}
-use Rattle.book.specs.declared.Book.{Book}
-use Rattle.book.specs.declared.Refusal.{Refusal}
-use Rattle.book.specs.Book.{held}
-use Rattle.book.specs.Call.{Opening, Call, Advance, Rate, Transfer, Settle}
-use Rattle.book.specs.Calls.{bookAfter, accepts}
+use Rattle.book_model.specs.declared.Book.{Book}
+use Rattle.book_model.specs.declared.Refusal.{Refusal}
+use Rattle.book_model.specs.Book.{held}
+use Rattle.book_model.specs.Call.{Opening, Call, Advance, Rate, Transfer, Settle}
+use Rattle.book_model.specs.Calls.{bookAfter, accepts}
 use Rattle.conservation.specs.Conservation.{centsOf}
-use Rattle.book.specs.Outcome.{Outcome, refusalNumber}
-use Rattle.book.specs.Positions.{receipts, total}
-use Rattle.book.specs.Rate.{withRates}
-use Rattle.book.specs.Sound.{Sound}
+use Rattle.book_model.specs.Outcome.{Outcome, refusalNumber}
+use Rattle.book_model.specs.Positions.{receipts, total}
+use Rattle.book_model.specs.Rate.{withRates}
+use Rattle.book_model.specs.Sound.{Sound}
 use Rattle.conservation.specs.Tally.{Tally, dayOfDate, entered}
-use Rattle.book.proofs.Accepted.{advance-cases, transfer-cases, settle-cases, no-refusal-is-0, orderOf, ratesAfter, accountAfter, rate-cases}
+use Rattle.book_model.proofs.Accepted.{advance-cases, transfer-cases, settle-cases, no-refusal-is-0, orderOf, ratesAfter, accountAfter, rate-cases}
 use Rattle.conservation.proofs.AdvanceAgrees.{agrees-advanced}
 use Rattle.conservation.proofs.Agreement.{Agrees}
-use Rattle.book.proofs.Assigned.{receipts-kept}
-use Rattle.book.proofs.Paid.{receipts-settled}
+use Rattle.book_model.proofs.Assigned.{receipts-kept}
+use Rattle.book_model.proofs.Paid.{receipts-settled}
 use Rattle.conservation.proofs.RateAgrees.{agrees-rated}
 use Rattle.conservation.proofs.SettleAgrees.{agrees-settled}
-use Rattle.book.proofs.Steps.{advance-step, transfer-step}
+use Rattle.book_model.proofs.Steps.{advance-step, transfer-step}
 use Rattle.conservation.proofs.TransferAgrees.{agrees-transferred}
 
 -- a refusal is not accepted

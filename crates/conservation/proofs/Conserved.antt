@@ -1,25 +1,25 @@
 -- Demand 3, by induction on the list of calls.
-use Prim.Native.Nat.{ℕ, _+_}
+use Prim.Native.Nat.{_+_}
 use native.Mathlib.Omega.{arith}
 use mathlib.Core.Path.{_≡_}
 use mathlib.Core.Bool.{cond}
 use mathlib.Core.List.{List, [], _∷_}
 use lib.Dec.{eqb}
-use Rattle.book.specs.declared.Book.{Book}
-use Rattle.book.specs.declared.Refusal.{Refusal}
-use Rattle.book.specs.Book.{held}
-use Rattle.book.specs.Call.{Opening, Call, Advance, Rate, Transfer, Settle}
-use Rattle.book.specs.Calls.{bookAfter, accepts, run}
-use Rattle.book.specs.Outcome.{Outcome, refusalNumber}
-use Rattle.book.specs.Positions.{receipts, total}
-use Rattle.book.specs.Reached.{Reached, empty, opens}
-use Rattle.book.specs.Sound.{Sound}
-use Rattle.book.proofs.Accepted.{orderOf, accountAfter, advance-cases, rate-cases, transfer-cases, settle-cases}
-use Rattle.book.proofs.Callers.{call-reached}
-use Rattle.book.proofs.Kept.{sound}
-use Rattle.book.proofs.StandingKept.{standing}
-use Rattle.book.proofs.Steps.{advance-step, transfer-step, settle-step}
-use Rattle.conservation.specs.Conservation.{openingOf, feedOf, acceptedCents, Conserved, Conservation}
+use Rattle.book_model.specs.declared.Book.{Book}
+use Rattle.book_model.specs.declared.Refusal.{Refusal}
+use Rattle.book_model.specs.Book.{held}
+use Rattle.book_model.specs.Call.{Opening, Call, Advance, Rate, Transfer, Settle}
+use Rattle.book_model.specs.Calls.{bookAfter, accepts, run}
+use Rattle.book_model.specs.Outcome.{Outcome, refusalNumber}
+use Rattle.book_model.specs.Positions.{receipts, total}
+use Rattle.book_model.specs.Reached.{Reached, empty, opens}
+use Rattle.book_model.specs.Sound.{Sound}
+use Rattle.book_model.proofs.Accepted.{orderOf, accountAfter, advance-cases, rate-cases, transfer-cases, settle-cases}
+use Rattle.book_model.proofs.Callers.{call-reached}
+use Rattle.book_model.proofs.Kept.{sound}
+use Rattle.book_model.proofs.StandingKept.{standing}
+use Rattle.book_model.proofs.Steps.{advance-step, transfer-step, settle-step}
+use Rattle.conservation.specs.Conservation.{openingOf, feedOf, acceptedCents, Conservation}
 use Rattle.conservation.specs.Tally.{Tally, start, dayOfDate, entered, fedWith}
 use Rattle.conservation.proofs.Agreement.{Agrees, holders-same, shares-same, shares-whole, receipts-same}
 use Rattle.conservation.proofs.CallAgrees.{not-accepted, agrees-after, receipts-after}

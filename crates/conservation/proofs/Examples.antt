@@ -6,21 +6,22 @@ use Rattle.calendar.specs.Calendar.{after, daysOfYears, dayCount}
 use Rattle.apportionment.specs.Sum.{sumBelow, countBelow}
 use Rattle.apportionment.specs.Apportionment.{totalWeight, quotient, remainder, leftover, comesBefore, rank, getsExtra, part}
 use Rattle.rates.specs.Rate.{within, dailyOf}
-use Rattle.book.specs.declared.Book.{Book}
-use Rattle.book.specs.declared.Refusal.the-variants as refusal
-use Rattle.book.specs.Accrual.{accruedDay, paidOff}
-use Rattle.book.specs.Advance.{dayPassed, daysPassed, advancedTo, advanced}
-use Rattle.book.specs.Book.{held, opening, emptyBook, withHeld, withAccount, withToday, withSettlement}
-use Rattle.book.specs.Call.{Advance, Transfer, Settle}
-use Rattle.book.specs.Calls.{bookAfter, run}
-use Rattle.book.specs.Outcome.{noChanges, answered, declined}
-use Rattle.book.specs.Open.{isFinancing, newBook, opened}
-use Rattle.book.specs.Rate.{startingBefore, withRates, revised, ratedFrom, rated}
-use Rattle.book.specs.Read.{totalsOf}
-use Rattle.book.specs.Schedule.{inForce, lastDay}
-use Rattle.book.specs.Settle.{settledBook, settled}
-use Rattle.book.specs.Standing.{settledOn, dayBegins, accountAt, overpaid}
-use Rattle.book.specs.Transfer.{moved, transferred}
+use Rattle.book_model.specs.declared.Book.{Book}
+use Rattle.book_model.specs.declared.Refusal.the-variants as refusal
+use Rattle.account.specs.Accrual.{accruedDay, paidOff}
+use Rattle.book_model.specs.Advance.{dayPassed, daysPassed, advancedTo, advanced}
+use Rattle.book_model.specs.Book.{held, emptyBook, withHeld, withAccount, withToday, withSettlement}
+use Rattle.account.specs.Opening.{opening}
+use Rattle.book_model.specs.Call.{Advance, Transfer, Settle}
+use Rattle.book_model.specs.Calls.{bookAfter, run}
+use Rattle.book_model.specs.Outcome.{noChanges, answered, declined}
+use Rattle.book_model.specs.Open.{isFinancing, newBook, opened}
+use Rattle.book_model.specs.Rate.{startingBefore, withRates, revised, ratedFrom, rated}
+use Rattle.book_model.specs.Read.{totalsOf}
+use Rattle.account.specs.Schedule.{inForce, lastDay}
+use Rattle.book_model.specs.Settle.{settledBook, settled}
+use Rattle.account.specs.Standing.{settledOn, dayBegins, accountAt, overpaid}
+use Rattle.book_model.specs.Transfer.{moved, transferred}
 use Rattle.conservation.specs.Examples.{Examples, Edges, ownBook, figures, position, nextDay, changesAt0, changes, fileBook}
 use Rattle.conservation.proofs.SteadyDays.{daysAt, days-steady}
 use Rattle.calendar.proofs.Examples as calendar

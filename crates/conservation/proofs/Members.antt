@@ -7,12 +7,12 @@ use mathlib.Core.List.{List, [], _∷_, _++_, map, map-append}
 use borrow.Author.Tests.{eqb-true, eq-eqb, ne-eqb, not-true}
 use lib.Dec.{eqb}
 use lib.ListN.{length}
-use Rattle.book.specs.Open.{distinct}
-use Rattle.book.specs.Positions.{total, among}
+use Rattle.book_model.specs.Open.{distinct}
+use Rattle.book_model.specs.Positions.{total, among}
 use Rattle.conservation.specs.Tally.{appears, withHolder, place}
-use Rattle.book.proofs.Assigned.{distinct-last}
-use Rattle.book.proofs.Cases.{choice, true-not-false, both-true, neither-true}
-use Rattle.book.proofs.ListTotals.{total-append}
+use Rattle.book_model.proofs.Assigned.{distinct-last}
+use Rattle.book_model.proofs.Cases.{choice, true-not-false, both-true, neither-true}
+use Rattle.book_model.proofs.ListTotals.{total-append}
 
 -- Membership
 

@@ -3,16 +3,16 @@ use Prim.Native.Nat.{ℕ, _+_, _*_}
 use mathlib.Core.Path.{_≡_, sym, ap, _∙_}
 use Rattle.apportionment.specs.Sum.{sumBelow}
 use Rattle.rates.specs.Rate.{dailyOf}
-use Rattle.book.specs.declared.Book.{Book}
-use Rattle.book.specs.Book.{ratesOf, settlementsOf}
-use Rattle.book.specs.Schedule.{dailyOn}
-use Rattle.book.specs.Standing.{settledOn}
-use Rattle.book.specs.Call.{Opening}
+use Rattle.book_model.specs.declared.Book.{Book}
+use Rattle.book_model.specs.Book.{ratesOf, settlementsOf}
+use Rattle.book_model.specs.Schedule.{dailyOn}
+use Rattle.account.specs.Standing.{settledOn}
+use Rattle.book_model.specs.Call.{Opening}
 use Rattle.conservation.specs.Tally.{Tally, dailyOfDay, sumsOn, sumsToday, outstandingOn, dueOf, outstandingOf}
 use Rattle.conservation.proofs.AccountTally.{SameFigures, account-is-tally}
-use Rattle.book.proofs.NotOverpaid as not-overpaid
+use Rattle.account.proofs.NotOverpaid as not-overpaid
 use Rattle.conservation.proofs.SameTerms.{SameTerms}
-use Rattle.book.proofs.StandingKept.{Standing}
+use Rattle.book_model.proofs.StandingKept.{Standing}
 use Rattle.conservation.proofs.TallySums.{through-same, through-accrued}
 
 -- the fields of Conserved
@@ -37,12 +37,12 @@ module _ (o : Opening) (b : Book) (t : Tally) (is : Standing b) (terms : SameTer
         through-same (b .recognised .0) (dailyOfDay t) (dailyOn (ratesOf b)) (t .paid) (settledOn (settlementsOf b))
             (λ day. ap dailyOf (sym (terms .rates day))) same-paid (b .today .0),
       )
-      (account-is-tally (b .recognised .0) (ratesOf b) (settlementsOf b) (b .today .0))
+      (account-is-tally (b .recognised .0) (dailyOn (ratesOf b)) (settlementsOf b) (b .today .0))
 
   whole : b .account .outstanding .0 + b .account .«principal_paid» .0 ≡ o .cents
   whole =
       rw (is .account-is)
-      (not-overpaid.principal-whole (b .recognised .0) (ratesOf b) (settlementsOf b) (is .not-over) (b .today .0) ∙ terms .recognised)
+      (not-overpaid.principal-whole (b .recognised .0) (dailyOn (ratesOf b)) (settlementsOf b) (is .not-over) (b .today .0) ∙ terms .recognised)
 
   pub money-conserved : MoneyConserved o b t
   unfolding sumsOn outstandingOn

@@ -2,22 +2,22 @@
 use mathlib.Core.Path.{_≡_, refl, sym, ap, _∙_}
 use mathlib.Core.List.{map, map-map}
 use Rattle.apportionment.specs.Sum.{sumBelow}
-use Rattle.book.specs.declared.Book.{Book}
-use Rattle.book.specs.Book.{emptyBook, fresh, held}
+use Rattle.book_model.specs.declared.Book.{Book}
+use Rattle.book_model.specs.Book.{emptyBook, fresh, held}
 use Rattle.conservation.specs.Conservation.{openingOf}
-use Rattle.book.specs.Open.{founded, newBook}
-use Rattle.book.specs.Outcome.{Outcome}
-use Rattle.book.specs.Positions.{shares, receipts, total}
-use Rattle.book.specs.Standing.{settledOn}
-use Rattle.book.specs.Call.{Opening}
+use Rattle.book_model.specs.Open.{founded, newBook}
+use Rattle.book_model.specs.Outcome.{Outcome}
+use Rattle.book_model.specs.Positions.{shares, receipts, total}
+use Rattle.account.specs.Standing.{settledOn}
+use Rattle.book_model.specs.Call.{Opening}
 use Rattle.conservation.specs.Tally.{listed, start, shareDays, lastBefore, portionOn, received}
-use Rattle.book.proofs.Accepted.{open-cases, no-refusal-is-0}
+use Rattle.book_model.proofs.Accepted.{open-cases, no-refusal-is-0}
 use Rattle.conservation.proofs.Agreement.{Agrees, unitDaysOf}
 use Rattle.conservation.proofs.ByHolder.{founded-is, listed-none}
-use Rattle.book.proofs.Financing.{Financed}
-use Rattle.book.proofs.Founded.{founded-shares, founded-receipts}
-use Rattle.book.proofs.Kept.{empty-sound}
-use Rattle.book.proofs.Steps.{OpenStep, open-step}
+use Rattle.book_model.proofs.Financing.{Financed}
+use Rattle.book_model.proofs.Founded.{founded-shares, founded-receipts}
+use Rattle.book_model.proofs.Kept.{empty-sound}
+use Rattle.book_model.proofs.Steps.{OpenStep, open-step}
 
 module _ (o : Opening) where
   module _ (c : Book) (step : OpenStep (o .first) (record { 0 = o .term }) (o .annual) (record { 0 = o .cents }) (o .holders) (o .shares) c)

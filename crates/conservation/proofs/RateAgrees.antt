@@ -1,10 +1,10 @@
 -- A rate order is nothing to the holders: it keeps the agreement with the tally.
 use Prim.Native.Nat.{ℕ}
 use mathlib.Core.List.{List}
-use Rattle.book.specs.declared.Account.{Account}
-use Rattle.book.specs.declared.Book.{Book}
-use Rattle.book.specs.declared.RateOrder.{RateOrder}
-use Rattle.book.specs.Rate.{withRates}
+use Rattle.account.specs.declared.Account.{Account}
+use Rattle.book_model.specs.declared.Book.{Book}
+use Rattle.account.specs.declared.RateOrder.{RateOrder}
+use Rattle.book_model.specs.Rate.{withRates}
 use Rattle.conservation.specs.Tally.{Tally, revise, shareDays, weight, portionOn, received}
 use Rattle.conservation.proofs.Agreement.{Agrees, unitDaysOf}
 

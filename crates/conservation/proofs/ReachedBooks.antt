@@ -3,19 +3,19 @@ use Prim.Native.Nat.{ℕ}
 use mathlib.Core.Path.{_≡_, refl, sym, ap, _∙_, subst}
 use mathlib.Core.Bool.{true, false}
 use mathlib.Core.List.{List, [], _∷_, _++_}
-use Rattle.book.specs.declared.Book.{Book}
-use Rattle.book.specs.declared.Cents.{Cents}
-use Rattle.book.specs.declared.Day.{Day}
-use Rattle.book.specs.Book.{emptyBook}
-use Rattle.book.specs.Call.{Opening, Call, Advance, Rate, Transfer, Settle}
-use Rattle.book.specs.Calls.{bookAfter, run}
-use Rattle.book.specs.Open.{opened}
-use Rattle.book.specs.Outcome.{Outcome}
-use Rattle.book.specs.Reached.{Reached, empty, opens, advances, rates, transfers, settles}
-use Rattle.book.specs.Sound.{Sound}
-use Rattle.book.proofs.Accepted.{open-cases, advance-cases, rate-cases, transfer-cases, settle-cases}
-use Rattle.book.proofs.Cases.{by-test, true-not-false}
-use Rattle.book.proofs.Kept.{sound}
+use Rattle.book_model.specs.declared.Book.{Book}
+use Rattle.account.specs.declared.Cents.{Cents}
+use Rattle.account.specs.declared.Day.{Day}
+use Rattle.book_model.specs.Book.{emptyBook}
+use Rattle.book_model.specs.Call.{Opening, Call, Advance, Rate, Transfer, Settle}
+use Rattle.book_model.specs.Calls.{bookAfter, run}
+use Rattle.book_model.specs.Open.{opened}
+use Rattle.book_model.specs.Outcome.{Outcome}
+use Rattle.book_model.specs.Reached.{Reached, empty, opens, advances, rates, transfers, settles}
+use Rattle.book_model.specs.Sound.{Sound}
+use Rattle.book_model.proofs.Accepted.{open-cases, advance-cases, rate-cases, transfer-cases, settle-cases}
+use Rattle.book_model.proofs.Cases.{by-test, true-not-false}
+use Rattle.book_model.proofs.Kept.{sound}
 use Rattle.conservation.specs.Conservation.{openingOf, feedOf, Conserved, History, ReachedConserved}
 use Rattle.conservation.specs.Tally.{start, fedWith}
 use Rattle.conservation.proofs.Conserved.{conserved}

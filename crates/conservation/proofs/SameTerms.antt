@@ -2,16 +2,16 @@
 use Prim.Native.Nat.{ℕ, _-_}
 use mathlib.Core.Path.{_≡_, refl, ap, _∙_}
 use Rattle.calendar.specs.Calendar.{dayCount}
-use Rattle.book.specs.declared.Account.{Account}
-use Rattle.book.specs.declared.Book.{Book}
-use Rattle.book.specs.declared.Cents.{Cents}
-use Rattle.book.specs.Book.{orderFrom, ratesOf}
-use Rattle.book.specs.Rate.{withRate, withRates}
-use Rattle.book.specs.Schedule.{annualOn}
-use Rattle.book.specs.Call.{Opening}
+use Rattle.account.specs.declared.Account.{Account}
+use Rattle.book_model.specs.declared.Book.{Book}
+use Rattle.account.specs.declared.Cents.{Cents}
+use Rattle.book_model.specs.Book.{orderFrom, ratesOf}
+use Rattle.book_model.specs.Rate.{withRate, withRates}
+use Rattle.book_model.specs.Schedule.{annualOn}
+use Rattle.book_model.specs.Call.{Opening}
 use Rattle.conservation.specs.Tally.{Tally, start, advance, revise, transfer, settle, dayOfDate}
-use Rattle.book.proofs.RateOrders.{rates-withRates, annual-opened, rate-sets-from}
-use Rattle.book.proofs.Steps.{OpenStep, SameRight}
+use Rattle.book_model.proofs.RateOrders.{rates-withRates, annual-opened, rate-sets-from}
+use Rattle.book_model.proofs.Steps.{OpenStep, SameRight}
 
 pub record SameTerms (o : Opening) (b : Book) (t : Tally) : Type 0 where
   pub first : b .first ≡ o .first

@@ -10,20 +10,20 @@ use lib.Dec.{eqb}
 use Rattle.apportionment.specs.Apportionment.{part}
 use Rattle.apportionment.specs.Sum.{sumBelow}
 use Rattle.apportionment.proofs.Sums.{sum-same}
-use Rattle.book.specs.declared.Book.{Book}
-use Rattle.book.specs.declared.Position.{Position}
-use Rattle.book.specs.Book.{held, settlementsOf}
-use Rattle.book.specs.Positions.{paidPosition, paidFrom, unitDays}
-use Rattle.book.specs.Settle.{settledToday, settledBook}
-use Rattle.book.specs.Sound.{OpenSound, Sound}
-use Rattle.book.specs.Standing.{settledOn}
+use Rattle.book_model.specs.declared.Book.{Book}
+use Rattle.book_model.specs.declared.Position.{Position}
+use Rattle.book_model.specs.Book.{held, settlementsOf}
+use Rattle.book_model.specs.Positions.{paidPosition, paidFrom, unitDays}
+use Rattle.book_model.specs.Settle.{settledToday, settledBook}
+use Rattle.book_model.specs.Sound.{OpenSound, Sound}
+use Rattle.account.specs.Standing.{settledOn}
 use Rattle.conservation.specs.Tally.{Tally, settle, shareDays, weight, place, portionOf, portionOn, received}
-use Rattle.book.proofs.Accepted.{SettleRight}
+use Rattle.book_model.proofs.Accepted.{SettleRight}
 use Rattle.conservation.proofs.Agreement.{Agrees, positionOf, unitDaysOf, holders-distinct, unit-days-same}
 use Rattle.conservation.proofs.ByHolder.{position-same, paid-is}
 use Rattle.conservation.proofs.Members.{map-same}
-use Rattle.book.proofs.SettledDays.{none-after-last, settled-joined}
-use Rattle.book.proofs.Steps.{SettleStep, settle-step}
+use Rattle.account.proofs.SettledDays.{none-after-last, settled-joined}
+use Rattle.book_model.proofs.Steps.{SettleStep, settle-step}
 use Rattle.conservation.proofs.TallyDays.{last-none, last-some, share-days-none, weight-same}
 
 module _ (b : Book) (known : OpenSound b) (t : Tally) (agrees : Agrees b t) (m : ℕ) (right : SettleRight b m) where

@@ -5,12 +5,12 @@ use mathlib.Core.List.{[], _∷_, map}
 use native.Mathlib.Omega.{arith}
 use borrow.Author.Tests.{le-leb}
 use Rattle.rates.specs.Rate.{dailyOf}
-use Rattle.book.specs.declared.Book.{Book}
-use Rattle.book.specs.Accrual.{accruedDay}
-use Rattle.book.specs.Advance.{dayPassed, daysPassed}
-use Rattle.book.specs.Book.{held, ratesOf, orderFrom, withHeld, withAccount, withToday}
-use Rattle.book.specs.Positions.{dayHeld}
-use Rattle.book.specs.Schedule.{inForce}
+use Rattle.book_model.specs.declared.Book.{Book}
+use Rattle.account.specs.Accrual.{accruedDay}
+use Rattle.book_model.specs.Advance.{dayPassed, daysPassed}
+use Rattle.book_model.specs.Book.{held, ratesOf, orderFrom, withHeld, withAccount, withToday}
+use Rattle.book_model.specs.Positions.{dayHeld}
+use Rattle.account.specs.Schedule.{inForce}
 
 -- a day at a daily rate
 abbrev dayAt : ℕ → Book → Book

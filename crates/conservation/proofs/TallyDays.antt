@@ -2,16 +2,16 @@
 use Prim.Native.Nat.{ℕ, zero, suc, _+_, _-_, _*_, _≤_, _<_}
 use native.Mathlib.Omega.{arith}
 use native.Mathlib.Nat.{add-zero, add-suc}
-use mathlib.Core.Path.{_≡_, refl, ap, _∙_}
+use mathlib.Core.Path.{_≡_, refl, _∙_}
 use mathlib.Core.List.{map}
 use mathlib.Core.Option.{Option, none, some}
 use borrow.Author.Tests.{le-leb, lt-leb}
 use lib.Dec.{leb}
 use Rattle.apportionment.specs.Sum.{sumBelow}
 use Rattle.apportionment.proofs.Sums.{sum-same}
-use Rattle.book.specs.Positions.{total}
+use Rattle.book_model.specs.Positions.{total}
 use Rattle.conservation.specs.Tally.{Tally, shareDays, isSettled, lastBefore, weight}
-use Rattle.book.proofs.Cases.{choice}
+use Rattle.book_model.proofs.Cases.{choice}
 use Rattle.conservation.proofs.Members.{total-le}
 
 -- Sums below a bound

@@ -7,19 +7,19 @@ use lib.IntN.{ℤ, pos, negℤ}
 use Rattle.calendar.specs.Answers.{sumOf}
 use Rattle.calendar.specs.Calendar.{isDate}
 use Rattle.rates.specs.Rate.{rateOf, rateNumber}
-use Rattle.book.specs.declared.Account.{Account}
-use Rattle.book.specs.declared.Book.{Book}
-use Rattle.book.specs.declared.Position.{Position}
-use Rattle.book.specs.declared.Refusal.the-variants as refusal
-use Rattle.book.specs.Advance.{advanced}
-use Rattle.book.specs.Book.{held}
-use Rattle.book.specs.Call.{Call, Advance, Transfer, Settle}
-use Rattle.book.specs.Calls.{run}
-use Rattle.book.specs.Outcome.{Answer, Taken, Changes, noDays, nothingTaken, noChanges, answered, declined}
-use Rattle.book.specs.Positions.{receipts}
-use Rattle.book.specs.Rate.{rated}
-use Rattle.book.specs.Read.{totalsOf}
-use Rattle.book.specs.Settle.{settled}
+use Rattle.account.specs.declared.Account.{Account}
+use Rattle.book_model.specs.declared.Book.{Book}
+use Rattle.book_model.specs.declared.Position.{Position}
+use Rattle.book_model.specs.declared.Refusal.the-variants as refusal
+use Rattle.book_model.specs.Advance.{advanced}
+use Rattle.book_model.specs.Book.{held}
+use Rattle.book_model.specs.Call.{Call, Advance, Transfer, Settle}
+use Rattle.book_model.specs.Calls.{run}
+use Rattle.book_model.specs.Outcome.{Answer, Taken, Changes, noDays, nothingTaken, noChanges, answered, declined}
+use Rattle.book_model.specs.Positions.{receipts}
+use Rattle.book_model.specs.Rate.{rated}
+use Rattle.book_model.specs.Read.{totalsOf}
+use Rattle.book_model.specs.Settle.{settled}
 use Rattle.conservation.specs.Conservation.{openingOf}
 
 -- the book after an opening at 2,000 from 20140101 and some calls

@@ -4,12 +4,12 @@ use Prim.Native.Nat.{ℕ, zero, suc, _+_, _-_, _*_, _/_, min}
 use mathlib.Core.Bool.{Bool, true, false, cond, _||_}
 use mathlib.Core.List.{List, [], _∷_, _++_, map}
 use mathlib.Core.Option.{Option, none, some}
-use lib.Dec.{leb, ltb, eqb}
+use lib.Dec.{leb, eqb}
 use Rattle.apportionment.specs.Apportionment.{part}
 use Rattle.apportionment.specs.Sum.{sumBelow}
 use Rattle.calendar.specs.Calendar.{dayCount}
 use Rattle.rates.specs.Rate.{dailyOf}
-use Rattle.book.specs.Call.{Opening, Call, Advance, Rate, Transfer, Settle}
+use Rattle.book_model.specs.Call.{Opening, Call, Advance, Rate, Transfer, Settle}
 
 -- "The tally is fed Open's arguments, then each call's and whether it was accepted, and reads nothing else."
 

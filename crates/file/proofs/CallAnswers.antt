@@ -2,14 +2,14 @@
 use mathlib.Core.Path.{_≡_, refl, sym, ap, subst, _∙_}
 use mathlib.Core.Bool.{cond}
 use Prim.Native.Nat.{ℕ}
-use Rattle.book.specs.declared.Book.{Book}
-use Rattle.book.specs.declared.Refusal.{Refusal}
-use Rattle.book.specs.Call.{Call}
-use Rattle.book.specs.Calls.{bookAfter, numberOf}
-use Rattle.book.specs.Outcome as book-outcome
-use Rattle.book.specs.Outcome.{Answer}
-use Rattle.book.specs.Reached.{Reached}
-use Rattle.book.proofs.Callers.{call-reached}
+use Rattle.book_model.specs.declared.Book.{Book}
+use Rattle.book_model.specs.declared.Refusal.{Refusal}
+use Rattle.book_model.specs.Call.{Call}
+use Rattle.book_model.specs.Calls.{bookAfter, numberOf}
+use Rattle.book_model.specs.Outcome as book-outcome
+use Rattle.book_model.specs.Outcome.{Answer}
+use Rattle.book_model.specs.Reached.{Reached}
+use Rattle.book_model.proofs.Callers.{call-reached}
 use Rattle.file.specs.declared.LoadAnswer.the-variants as answer
 use Rattle.file.specs.declared.LoadRefusal.the-variants as refusal
 use Rattle.file.specs.declared.turning.Next.the-variants.{On, Stop}

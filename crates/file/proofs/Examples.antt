@@ -6,19 +6,20 @@ use mathlib.Core.List.{List, [], _∷_, _++_}
 use native.Mathlib.Omega.{arith}
 use lib.ListN.{take}
 use Rattle.calendar.specs.Calendar.{daysOfYears, dayCount}
-use Rattle.book.specs.declared.Book.{Book}
-use Rattle.book.specs.Accrual.{accruedDay}
-use Rattle.book.specs.Advance.{dayPassed, daysPassed, advancedTo, advanced, lastSettled}
-use Rattle.book.specs.Book.{held, opening, emptyBook, withHeld, withAccount, withToday}
-use Rattle.book.specs.Call.{Call, Advance, Transfer, Settle}
-use Rattle.book.specs.Calls.{bookAfter, numberOf, run}
-use Rattle.book.specs.Outcome as outcome
-use Rattle.book.specs.Open.{isFinancing, newBook, opened}
-use Rattle.book.specs.Rate.{rated}
-use Rattle.book.specs.Read.{totalsOf}
-use Rattle.book.specs.Schedule.{lastDay}
-use Rattle.book.specs.Transfer.{moved, transferred}
-use Rattle.book.proofs.Settlements as settlements
+use Rattle.book_model.specs.declared.Book.{Book}
+use Rattle.account.specs.Accrual.{accruedDay}
+use Rattle.book_model.specs.Advance.{dayPassed, daysPassed, advancedTo, advanced, lastSettled}
+use Rattle.book_model.specs.Book.{held, emptyBook, withHeld, withAccount, withToday}
+use Rattle.account.specs.Opening.{opening}
+use Rattle.book_model.specs.Call.{Call, Advance, Transfer, Settle}
+use Rattle.book_model.specs.Calls.{bookAfter, numberOf, run}
+use Rattle.book_model.specs.Outcome as outcome
+use Rattle.book_model.specs.Open.{isFinancing, newBook, opened}
+use Rattle.book_model.specs.Rate.{rated}
+use Rattle.book_model.specs.Read.{totalsOf}
+use Rattle.account.specs.Schedule.{lastDay}
+use Rattle.book_model.specs.Transfer.{moved, transferred}
+use Rattle.book_model.proofs.Settlements as settlements
 use Rattle.conservation.specs.Examples.{ownBook, fileBook}
 use Rattle.conservation.proofs.Examples as conservation
 use Rattle.lines.specs.Examples.{openingLine, financingLine, advanceLine, transferLine, laterAdvanceLine, settlementLine, endLine}

@@ -7,8 +7,8 @@ use mathlib.Core.List.{List, [], _∷_, _++_}
 use lib.ListN.{length, getD, take, drop, set, length-set}
 use lib.Seq.{take-suc-set, length-take-le}
 use borrow.Author.Tests.{le-leb, lt-leb}
-use Rattle.book.specs.declared.Book.{Book}
-use Rattle.book.specs.declared.Refusal.the-variants as book-refusal
+use Rattle.book_model.specs.declared.Book.{Book}
+use Rattle.book_model.specs.declared.Refusal.the-variants as book-refusal
 use Rattle.lines.specs.declared.Fields.{Fields}
 use Rattle.lines.specs.declared.ReadAnswer.the-variants as read-answer
 use Rattle.lines.specs.Line.{readStated, lineOf}

@@ -6,14 +6,14 @@ use mathlib.Core.Bool.{true, false}
 use mathlib.Core.List.{List, [], _∷_, _++_, map}
 use borrow.Author.Tests.{eqb-true, eq-eqb, ne-eqb, lt-leb}
 use lib.ListN.{length, length-append}
-use Rattle.book.specs.declared.Book.{Book}
-use Rattle.book.specs.Book.{emptyBook}
-use Rattle.book.specs.Call.{Opening, Call}
-use Rattle.book.specs.Calls.{openedWith, bookAfter, numberOf, accepts, run}
-use Rattle.book.specs.Outcome as book-outcome
-use Rattle.book.proofs.Accepted.{no-refusal-is-0, open-cases}
-use Rattle.book.proofs.Cases.{both-true}
-use Rattle.book.proofs.Financing.{Financed}
+use Rattle.book_model.specs.declared.Book.{Book}
+use Rattle.book_model.specs.Book.{emptyBook}
+use Rattle.book_model.specs.Call.{Opening, Call}
+use Rattle.book_model.specs.Calls.{openedWith, bookAfter, numberOf, accepts, run}
+use Rattle.book_model.specs.Outcome as book-outcome
+use Rattle.book_model.proofs.Accepted.{no-refusal-is-0, open-cases}
+use Rattle.book_model.proofs.Cases.{both-true}
+use Rattle.book_model.proofs.Financing.{Financed}
 use Rattle.conservation.specs.Conservation.{openingOf}
 use Rattle.lines.specs.Lines.{lines}
 use Rattle.file.specs.Order.{Order, Open, Finance, Later, End, orderIn}

@@ -2,8 +2,8 @@
 use Prim.Native.Nat.{ℕ}
 use mathlib.Core.Path.{_≡_, refl, ap, subst, sym, _∙_}
 use mathlib.Core.List.{List}
-use Rattle.book.specs.declared.Book.{Book}
-use Rattle.book.specs.Reached.{Reached}
+use Rattle.book_model.specs.declared.Book.{Book}
+use Rattle.book_model.specs.Reached.{Reached}
 use Rattle.file.specs.declared.LoadAnswer.{LoadAnswer}
 use Rattle.file.specs.declared.LoadAnswer.the-variants as answer
 use Rattle.file.specs.declared.Loaded.{Loaded}

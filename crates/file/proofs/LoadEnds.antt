@@ -6,14 +6,14 @@ use mathlib.Core.Bool.{not}
 use mathlib.Core.List.{List, [], _∷_}
 use lib.Dec.{leb, eqb}
 use lib.ListN.{length, getD}
-use Rattle.book.specs.declared.Book.{Book}
-use Rattle.book.specs.declared.Refusal.{Refusal}
-use Rattle.book.specs.declared.Refusal.the-variants as book-refusal
-use Rattle.book.specs.Call.{Opening, Call, Advance, Rate, Transfer, Settle}
-use Rattle.book.specs.Calls.{openedWith, bookAfter, numberOf}
-use Rattle.book.specs.Outcome as book-outcome
-use Rattle.book.proofs.Accepted.{open-cases, advance-cases, rate-cases, transfer-cases, settle-cases}
-use Rattle.book.proofs.Cases.{choice}
+use Rattle.book_model.specs.declared.Book.{Book}
+use Rattle.book_model.specs.declared.Refusal.{Refusal}
+use Rattle.book_model.specs.declared.Refusal.the-variants as book-refusal
+use Rattle.book_model.specs.Call.{Opening, Call, Advance, Rate, Transfer, Settle}
+use Rattle.book_model.specs.Calls.{openedWith, bookAfter, numberOf}
+use Rattle.book_model.specs.Outcome as book-outcome
+use Rattle.book_model.proofs.Accepted.{open-cases, advance-cases, rate-cases, transfer-cases, settle-cases}
+use Rattle.book_model.proofs.Cases.{choice}
 use Rattle.lines.specs.Line.{lineOf}
 use Rattle.lines.specs.Lines.{lines}
 use Rattle.file.specs.Order.{Order, Open, Finance, Later, End, Malformed, orderIn}

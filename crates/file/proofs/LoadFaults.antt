@@ -8,9 +8,9 @@ use lib.Dec.{eqb, leb}
 use lib.ListN.{length, getD, take, drop, length-append, length-drop, take-append-drop, List·getD-append}
 use lib.Seq.{getD-append-add}
 use borrow.Author.Tests.{eqb-true, eqb-false, not-false}
-use Rattle.book.specs.declared.Book.{Book}
-use Rattle.book.specs.declared.Refusal.the-variants as book-refusal
-use Rattle.book.specs.Calls.{openedWith, bookAfter, numberOf}
+use Rattle.book_model.specs.declared.Book.{Book}
+use Rattle.book_model.specs.declared.Refusal.the-variants as book-refusal
+use Rattle.book_model.specs.Calls.{openedWith, bookAfter, numberOf}
 use Rattle.lines.specs.Field.{fieldAt, padded, justified}
 use Rattle.lines.specs.Line.{usesOf, assembledOf, columnsOf, lineOf, malformedNumber, noFields}
 use Rattle.lines.specs.Lines.{lines}

@@ -5,12 +5,12 @@ use mathlib.Core.Path.{_≡_, refl, sym, ap, subst}
 use mathlib.Core.Bool.{true}
 use mathlib.Core.List.{List, [], _∷_, _++_, map}
 use borrow.Author.Tests.{eq-eqb}
-use Rattle.book.specs.declared.Book.{Book}
-use Rattle.book.specs.Book.{emptyBook}
-use Rattle.book.specs.Call.{Opening, Call}
-use Rattle.book.specs.Calls.{openedWith, bookAfter, run}
-use Rattle.book.specs.Reached.{Reached, opens}
-use Rattle.book.proofs.Callers.{call-reached}
+use Rattle.book_model.specs.declared.Book.{Book}
+use Rattle.book_model.specs.Book.{emptyBook}
+use Rattle.book_model.specs.Call.{Opening, Call}
+use Rattle.book_model.specs.Calls.{openedWith, bookAfter, run}
+use Rattle.book_model.specs.Reached.{Reached, opens}
+use Rattle.book_model.proofs.Callers.{call-reached}
 use Rattle.conservation.specs.Conservation.{openingOf, feedOf, Conserved, History}
 use Rattle.conservation.specs.Tally.{start, fedWith}
 use Rattle.conservation.proofs.Conserved as conservation

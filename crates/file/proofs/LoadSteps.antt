@@ -8,8 +8,8 @@ use native.Mathlib.Decide.{decLt}
 use lib.Dec.{eqb}
 use lib.ListN.{length, getD, drop}
 use borrow.Author.Tests.{eq-eqb, ne-eqb}
-use Rattle.book.specs.declared.Book.{Book}
-use Rattle.book.specs.Call.{Opening}
+use Rattle.book_model.specs.declared.Book.{Book}
+use Rattle.book_model.specs.Call.{Opening}
 use Rattle.lines.specs.Lines.{lines, lineAt, endOf}
 use Rattle.lines.proofs.LinePositions.{lines-at, lines-end, first-byte, end-within}
 use Rattle.file.specs.declared.LoadRefusal.the-variants as refusal

@@ -3,17 +3,17 @@ use Prim.Native.Nat.{ℕ, zero, suc}
 use native.Mathlib.Omega.{arith}
 use mathlib.Core.Path.{_≡_, refl, _∙_}
 use mathlib.Core.Bool.{true, false}
-use Rattle.book.specs.declared.Book.{Book}
-use Rattle.book.specs.Advance.{dayPassed, daysPassed}
-use Rattle.book.specs.Book.{emptyBook, withHeld, withAccount, withToday, withSettlement}
-use Rattle.book.specs.Call.{Opening, Call, Advance, Rate, Transfer, Settle}
-use Rattle.book.specs.Calls.{openedWith, bookAfter, numberOf}
-use Rattle.book.specs.Open.{newBook, opened}
-use Rattle.book.specs.Outcome.{Outcome}
-use Rattle.book.specs.Rate.{withRates}
-use Rattle.book.specs.Settle.{settledBook}
-use Rattle.book.proofs.Accepted.{no-refusal-is-0, open-cases, advance-cases, rate-cases, transfer-cases, settle-cases}
-use Rattle.book.proofs.Cases.{true-not-false}
+use Rattle.book_model.specs.declared.Book.{Book}
+use Rattle.book_model.specs.Advance.{dayPassed, daysPassed}
+use Rattle.book_model.specs.Book.{emptyBook, withHeld, withAccount, withToday, withSettlement}
+use Rattle.book_model.specs.Call.{Opening, Call, Advance, Rate, Transfer, Settle}
+use Rattle.book_model.specs.Calls.{openedWith, bookAfter, numberOf}
+use Rattle.book_model.specs.Open.{newBook, opened}
+use Rattle.book_model.specs.Outcome.{Outcome}
+use Rattle.book_model.specs.Rate.{withRates}
+use Rattle.book_model.specs.Settle.{settledBook}
+use Rattle.book_model.proofs.Accepted.{no-refusal-is-0, open-cases, advance-cases, rate-cases, transfer-cases, settle-cases}
+use Rattle.book_model.proofs.Cases.{true-not-false}
 use Rattle.conservation.specs.Conservation.{openingOf}
 
 days-open : (n : ℕ) (b : Book) → daysPassed n b .opened ≡ b .opened

@@ -2,7 +2,7 @@
 use Prim.Native.Nat.{ℕ}
 use mathlib.Core.Path.{_≡_}
 use mathlib.Core.List.{List, [], _∷_, _++_, append-nil, append-assoc}
-use Rattle.book.specs.Call.{Opening}
+use Rattle.book_model.specs.Call.{Opening}
 use Rattle.file.specs.Load.{openingWith, withHolder}
 
 abbrev pub withHolders : Opening → (holders shares : List ℕ) → Opening

@@ -4,14 +4,14 @@ use mathlib.Core.Bool.{cond}
 use mathlib.Core.List.{List, []}
 use Prim.Native.Nat.{ℕ}
 use lib.ListN.{drop, take}
-use Rattle.book.specs.declared.Book.{Book}
-use Rattle.book.specs.declared.Refusal.{Refusal}
-use Rattle.book.specs.declared.Opened.{Opened}
-use Rattle.book.specs.declared.OpenAnswer.{OpenAnswer}
-use Rattle.book.specs.declared.OpenAnswer.the-variants as open-answer
-use Rattle.book.specs.Outcome.{openCase, openStated}
-use Rattle.book.specs.Call.{Opening}
-use Rattle.book.specs.Calls.{openedWith}
+use Rattle.book_model.specs.declared.Book.{Book}
+use Rattle.book_model.specs.declared.Refusal.{Refusal}
+use Rattle.book_model.specs.declared.Opened.{Opened}
+use Rattle.book_model.specs.declared.OpenAnswer.{OpenAnswer}
+use Rattle.book_model.specs.declared.OpenAnswer.the-variants as open-answer
+use Rattle.book_model.specs.Outcome.{openCase, openStated}
+use Rattle.book_model.specs.Call.{Opening}
+use Rattle.book_model.specs.Calls.{openedWith}
 use Rattle.lines.specs.declared.Fields.{Fields}
 use Rattle.lines.specs.Lines.{lines}
 use Rattle.file.specs.declared.LoadAnswer.{LoadAnswer}

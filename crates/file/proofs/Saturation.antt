@@ -6,13 +6,13 @@ use mathlib.Core.Bool.{Bool, cond}
 use mathlib.Core.List.{List, [], _∷_, _++_, map, map-append}
 use lib.ListN.{length}
 use borrow.Author.Tests.{le-ltb, lt-ltb}
-use Rattle.book.specs.declared.Book.{Book}
-use Rattle.book.specs.Calls.{openedWith}
-use Rattle.book.specs.Outcome.{Outcome as Result}
-use Rattle.book.specs.Open.{isFinancing, opened}
-use Rattle.book.specs.Positions.{total}
-use Rattle.book.proofs.Cases.{by-test, by-order}
-use Rattle.book.proofs.Financing.{financed}
+use Rattle.book_model.specs.declared.Book.{Book}
+use Rattle.book_model.specs.Calls.{openedWith}
+use Rattle.book_model.specs.Outcome.{Outcome as Result}
+use Rattle.book_model.specs.Open.{isFinancing, opened}
+use Rattle.book_model.specs.Positions.{total}
+use Rattle.book_model.proofs.Cases.{by-test, by-order}
+use Rattle.book_model.proofs.Financing.{financed}
 use Rattle.file.specs.Order.{Order, Open, Finance, Later, End, Malformed, orderIn}
 use Rattle.file.specs.Load.{Outcome, Waiting, Waits, openingWith, afterCall, beginsWithF, afterOpen, afterFinancing, loadFrom}
 use Rattle.file.specs.Computation.{saturated}

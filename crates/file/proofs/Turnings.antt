@@ -7,10 +7,10 @@ use native.Mathlib.Omega.{arith}
 use lib.Dec.{eqb}
 use lib.ListN.{length, getD, drop}
 use borrow.Author.Tests.{ne-eqb, eqb-true, eqb-false}
-use Rattle.book.specs.declared.Book.{Book}
-use Rattle.book.specs.Call.{Call, Advance, Rate, Transfer, Settle}
-use Rattle.book.proofs.Accepted.{no-refusal-is-0}
-use Rattle.book.proofs.Cases.{by-test, choice}
+use Rattle.book_model.specs.declared.Book.{Book}
+use Rattle.book_model.specs.Call.{Call, Advance, Rate, Transfer, Settle}
+use Rattle.book_model.proofs.Accepted.{no-refusal-is-0}
+use Rattle.book_model.proofs.Cases.{by-test, choice}
 use Rattle.lines.specs.declared.Fields.{Fields}
 use Rattle.lines.specs.declared.ReadAnswer.the-variants as read-answer
 use Rattle.lines.specs.Line.{readStated, lineOf}

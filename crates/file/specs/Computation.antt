@@ -5,10 +5,10 @@ use mathlib.Core.Bool.{Bool, cond}
 use mathlib.Core.List.{List, []}
 use lib.Dec.{ltb, eqb}
 use lib.ListN.{length, take, drop}
-use Rattle.book.specs.declared.Book.{Book}
-use Rattle.book.specs.Call.{Call}
-use Rattle.book.specs.Calls.{bookAfter, numberOf}
-use Rattle.book.specs.Reached.{Reached}
+use Rattle.book_model.specs.declared.Book.{Book}
+use Rattle.book_model.specs.Call.{Call}
+use Rattle.book_model.specs.Calls.{bookAfter, numberOf}
+use Rattle.book_model.specs.Reached.{Reached}
 use Rattle.lines.specs.Lines.{lines}
 use Rattle.file.specs.declared.LoadAnswer.{LoadAnswer}
 use Rattle.file.specs.declared.LoadAnswer.the-variants as answer

@@ -3,10 +3,10 @@ use Prim.Native.Nat.{ℕ}
 use mathlib.Core.Path.{_≡_}
 use mathlib.Core.List.{List, [], _∷_, _++_}
 use lib.ListN.{take, drop}
-use Rattle.book.specs.Book.{emptyBook, held}
-use Rattle.book.specs.Outcome.{answered}
-use Rattle.book.specs.Read.{totalsOf}
-use Rattle.book.specs.declared.Refusal.the-variants as book-refusal
+use Rattle.book_model.specs.Book.{emptyBook, held}
+use Rattle.book_model.specs.Outcome.{answered}
+use Rattle.book_model.specs.Read.{totalsOf}
+use Rattle.book_model.specs.declared.Refusal.the-variants as book-refusal
 use Rattle.conservation.specs.Examples.{figures, position}
 use Rattle.lines.specs.Examples.{openingLine, financingLine, advanceLine, transferLine, laterAdvanceLine, settlementLine, endLine, rateLine, leadingZeroLine}
 use Rattle.file.specs.declared.LoadRefusal.{LoadRefusal}

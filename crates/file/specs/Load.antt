@@ -5,11 +5,11 @@ use mathlib.Core.Bool.{Bool, true, false, cond, not}
 use mathlib.Core.List.{List, [], _∷_, _++_}
 use lib.Dec.{leb, eqb}
 use lib.ListN.{length, getD}
-use Rattle.book.specs.declared.Book.{Book}
-use Rattle.book.specs.declared.Refusal.the-variants as book-refusal
-use Rattle.book.specs.Call.{Opening, Call}
-use Rattle.book.specs.Calls.{openedWith, bookAfter, numberOf}
-use Rattle.book.specs.Outcome as book-outcome
+use Rattle.book_model.specs.declared.Book.{Book}
+use Rattle.book_model.specs.declared.Refusal.the-variants as book-refusal
+use Rattle.book_model.specs.Call.{Opening, Call}
+use Rattle.book_model.specs.Calls.{openedWith, bookAfter, numberOf}
+use Rattle.book_model.specs.Outcome as book-outcome
 use Rattle.lines.specs.Line.{malformedNumber}
 use Rattle.lines.specs.Lines.{lines, lineStart, lineEnd}
 use Rattle.file.specs.declared.LoadRefusal.{LoadRefusal}

@@ -4,11 +4,11 @@ use mathlib.Core.Path.{_≡_}
 use mathlib.Core.Bool.{Bool, true, _&&_}
 use mathlib.Core.List.{List, [], _∷_, _++_, map}
 use lib.ListN.{length, getD, take}
-use Rattle.book.specs.declared.Book.{Book}
-use Rattle.book.specs.Book.{emptyBook}
-use Rattle.book.specs.Call.{Opening, Call}
-use Rattle.book.specs.Calls.{bookAfter, numberOf, accepts, run}
-use Rattle.book.specs.Reached.{Reached}
+use Rattle.book_model.specs.declared.Book.{Book}
+use Rattle.book_model.specs.Book.{emptyBook}
+use Rattle.book_model.specs.Call.{Opening, Call}
+use Rattle.book_model.specs.Calls.{bookAfter, numberOf, accepts, run}
+use Rattle.book_model.specs.Reached.{Reached}
 use Rattle.conservation.specs.Conservation.{openingOf, feedOf, Conserved, History}
 use Rattle.conservation.specs.Tally.{start, fedWith}
 use Rattle.lines.specs.Lines.{lines}

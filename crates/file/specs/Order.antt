@@ -3,7 +3,7 @@ use Prim.Native.Nat.{ℕ}
 use mathlib.Core.Bool.{cond}
 use mathlib.Core.List.{List}
 use lib.Dec.{eqb}
-use Rattle.book.specs.Call.{Call, Advance, Rate, Transfer, Settle}
+use Rattle.book_model.specs.Call.{Call, Advance, Rate, Transfer, Settle}
 use Rattle.lines.specs.declared.Fields.{Fields}
 use Rattle.lines.specs.Line.{lineOf}
 

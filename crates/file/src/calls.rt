@@ -1,7 +1,7 @@
 // The calls that D, R, T and S lines make of the book, each by a line with its number and the position behind it. A turn is built once, outside the
 // cases of the answer: wherever it is built, the book is copied.
-ghost use Rattle.book.specs.Call.{Advance, Rate, Transfer, Settle};
-ghost use Rattle.book.specs.Reached.{Reached};
+ghost use Rattle.book_model.specs.Call.{Advance, Rate, Transfer, Settle};
+ghost use Rattle.book_model.specs.Reached.{Reached};
 ghost use Rattle.file.specs.Computation.{Calls};
 use crate::LoadAnswer;
 use crate::LoadRefusal;

@@ -1,6 +1,6 @@
 // A file loaded on a book, and the part of the file that the answer names.
 ghost use mathlib.Core.Path.{_≡_};
-ghost use Rattle.book.specs.Reached.{Reached};
+ghost use Rattle.book_model.specs.Reached.{Reached};
 ghost use Rattle.lines.specs.Lines.{partOf};
 ghost use Rattle.file.specs.Load.{loadStated, loadOf, partStart, partEnd};
 ghost use Rattle.file.specs.Load as load;

@@ -2,7 +2,7 @@
 ghost use Prim.Native.Nat.{_+_, _≤_, _<_, _^_};
 ghost use lib.ListN.{length};
 ghost use mathlib.Core.List.{[]};
-ghost use Rattle.book.specs.Reached.{Reached};
+ghost use Rattle.book_model.specs.Reached.{Reached};
 ghost use Rattle.file.specs.Load.{Waits, openingWith};
 ghost use Rattle.file.specs.Order.{orderOf};
 ghost use Rattle.file.specs.Computation.{Ends, Turns, NoCall, Continues};

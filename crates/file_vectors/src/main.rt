@@ -1,6 +1,6 @@
 // Loads the files of the input on a book, writes and reads its lines, and prints the answer to each case.
 ghost use Prim.Native.Nat.{_≤_};
-ghost use Rattle.book.specs.Reached.{Reached};
+ghost use Rattle.book_model.specs.Reached.{Reached};
 use book::Book;
 use book::PlaceAnswer;
 use file::LoadAnswer;

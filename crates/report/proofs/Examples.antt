@@ -2,11 +2,11 @@
 use Prim.Native.Nat.{ℕ}
 use mathlib.Core.Path.{_≡_, refl, ap, _∙_}
 use mathlib.Core.List.{List, [], _++_}
-use Rattle.book.specs.declared.Account.{Account}
-use Rattle.book.specs.declared.Position.{Position}
-use Rattle.book.specs.Book.{emptyBook, held}
-use Rattle.book.specs.Outcome.{Totals, answered}
-use Rattle.book.specs.Read.{totalsOf}
+use Rattle.account.specs.declared.Account.{Account}
+use Rattle.book_model.specs.declared.Position.{Position}
+use Rattle.book_model.specs.Book.{emptyBook, held}
+use Rattle.book_model.specs.Outcome.{Totals, answered}
+use Rattle.book_model.specs.Read.{totalsOf}
 use Rattle.file.specs.Examples.{paperFile, loaded}
 use Rattle.file.specs.Load.{Outcome}
 use Rattle.file.specs.Loads.{endAlone}

@@ -7,17 +7,18 @@ use mathlib.Core.List.{List, [], _∷_}
 use lib.Dec.{eqb, leb}
 use lib.ListN.{getD}
 use borrow.Author.Tests.{leb-true}
-use Rattle.book.specs.declared.Book.{Book}
-use Rattle.book.specs.declared.Position.{Position}
-use Rattle.book.specs.Book.{emptyBook, held, opening}
-use Rattle.book.specs.Open.{all}
-use Rattle.book.specs.Outcome.{noPosition}
-use Rattle.book.specs.Positions.{isHolder, holders}
-use Rattle.book.specs.Reached.{Reached}
-use Rattle.book.specs.Sound.{OpenSound}
-use Rattle.book.proofs.Cases.{by-test, both-true}
-use Rattle.book.proofs.Kept.{sound}
-use Rattle.book.proofs.ListTotals.{total-most-of}
+use Rattle.book_model.specs.declared.Book.{Book}
+use Rattle.book_model.specs.declared.Position.{Position}
+use Rattle.book_model.specs.Book.{emptyBook, held}
+use Rattle.account.specs.Opening.{opening}
+use Rattle.book_model.specs.Open.{all}
+use Rattle.book_model.specs.Outcome.{noPosition}
+use Rattle.book_model.specs.Positions.{isHolder, holders}
+use Rattle.book_model.specs.Reached.{Reached}
+use Rattle.book_model.specs.Sound.{OpenSound}
+use Rattle.book_model.proofs.Cases.{by-test, both-true}
+use Rattle.book_model.proofs.Kept.{sound}
+use Rattle.book_model.proofs.ListTotals.{total-most-of}
 use Rattle.report.specs.Statements.{TotalsFit, PositionFits}
 
 -- a reached book is the empty one, or open and sound

@@ -7,9 +7,9 @@ use native.Mathlib.Omega.{arith}
 use lib.Dec.{leb}
 use lib.ListN.{length, set, length-set}
 use lib.Seq.{sets, length-sets}
-use Rattle.book.specs.declared.Account.{Account}
-use Rattle.book.specs.declared.Position.{Position}
-use Rattle.book.proofs.Cases.{choice}
+use Rattle.account.specs.declared.Account.{Account}
+use Rattle.book_model.specs.declared.Position.{Position}
+use Rattle.book_model.proofs.Cases.{choice}
 use Rattle.lines.specs.Field.{justified}
 use Rattle.lines.specs.Write.{numberPut}
 use Rattle.lines.proofs.NumberPut.{put-within, length-put}

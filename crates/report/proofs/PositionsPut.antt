@@ -7,20 +7,20 @@ use native.Mathlib.Numerals.{add-one}
 use native.Mathlib.Omega.{arith}
 use lib.ListN.{length, getD, take}
 use lib.Seq.{sets, length-sets, getD-take, length-take-le, take-all, take-suc}
-use Rattle.book.specs.declared.Book.{Book}
-use Rattle.book.specs.declared.Position.{Position}
-use Rattle.book.specs.declared.PlaceAnswer.{PlaceAnswer}
-use Rattle.book.specs.declared.PlaceAnswer.the-variants as place-answer
-use Rattle.book.specs.declared.Refusal.{Refusal}
-use Rattle.book.specs.Book.{held}
-use Rattle.book.specs.Outcome.{noPosition, placeStated}
-use Rattle.book.specs.Reached.{Reached}
-use Rattle.book.specs.Read.{positionAt}
-use Rattle.book.proofs.Accepted.{no-refusal-is-0}
-use Rattle.book.proofs.Cases.{by-order}
-use Rattle.book.proofs.ChangedBook.{length-held}
-use Rattle.book.proofs.Kept.{sound}
-use Rattle.book.proofs.Readings.{place-beyond, place-known}
+use Rattle.book_model.specs.declared.Book.{Book}
+use Rattle.book_model.specs.declared.Position.{Position}
+use Rattle.book_model.specs.declared.PlaceAnswer.{PlaceAnswer}
+use Rattle.book_model.specs.declared.PlaceAnswer.the-variants as place-answer
+use Rattle.book_model.specs.declared.Refusal.{Refusal}
+use Rattle.book_model.specs.Book.{held}
+use Rattle.book_model.specs.Outcome.{noPosition, placeStated}
+use Rattle.book_model.specs.Reached.{Reached}
+use Rattle.book_model.specs.Read.{positionAt}
+use Rattle.book_model.proofs.Accepted.{no-refusal-is-0}
+use Rattle.book_model.proofs.Cases.{by-order}
+use Rattle.book_model.proofs.ChangedBook.{length-held}
+use Rattle.book_model.proofs.Kept.{sound}
+use Rattle.book_model.proofs.Readings.{place-beyond, place-known}
 use Rattle.lines.proofs.Stores.{sets-append}
 use Rattle.report.specs.Statement.{positionLine, positionLines}
 use Rattle.report.proofs.StatementLengths.{positions-length}

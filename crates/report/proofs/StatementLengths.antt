@@ -6,15 +6,15 @@ use mathlib.Core.Bool.{true, false}
 use mathlib.Core.List.{List, [], _∷_}
 use lib.Dec.{eqb}
 use lib.ListN.{length, length-append}
-use Rattle.book.specs.declared.Account.{Account}
-use Rattle.book.specs.declared.Book.{Book}
-use Rattle.book.specs.declared.Position.{Position}
-use Rattle.book.specs.Book.{emptyBook, held}
-use Rattle.book.specs.Reached.{Reached, empty}
-use Rattle.book.specs.Read.{totalsOf}
-use Rattle.book.proofs.Cases.{by-test, choice}
-use Rattle.book.proofs.ChangedBook.{length-held}
-use Rattle.book.proofs.Kept.{sound}
+use Rattle.account.specs.declared.Account.{Account}
+use Rattle.book_model.specs.declared.Book.{Book}
+use Rattle.book_model.specs.declared.Position.{Position}
+use Rattle.book_model.specs.Book.{emptyBook, held}
+use Rattle.book_model.specs.Reached.{Reached, empty}
+use Rattle.book_model.specs.Read.{totalsOf}
+use Rattle.book_model.proofs.Cases.{by-test, choice}
+use Rattle.book_model.proofs.ChangedBook.{length-held}
+use Rattle.book_model.proofs.Kept.{sound}
 use Rattle.file.specs.Load.{loadOf}
 use Rattle.file.proofs.LoadRuns.{reached-kept}
 use Rattle.lines.proofs.Stores.{length-justified}

@@ -9,17 +9,17 @@ use borrow.Author.Tests.{le-leb, lt-leb, ne-eqb}
 use lib.Dec.{eqb}
 use lib.ListN.{length, drop, length-append}
 use lib.Seq.{sets, sets-eq}
-use Rattle.book.specs.declared.Account.{Account}
-use Rattle.book.specs.declared.Book.{Book}
-use Rattle.book.specs.declared.Refusal.{Refusal}
-use Rattle.book.specs.declared.TotalsAnswer.{TotalsAnswer}
-use Rattle.book.specs.declared.TotalsAnswer.the-variants as totals-answer
-use Rattle.book.specs.Book.{emptyBook, held}
-use Rattle.book.specs.Outcome.{Answer, Totals, totalsStated}
-use Rattle.book.specs.Read.{totalsOf}
-use Rattle.book.proofs.Accepted.{no-refusal-is-0}
-use Rattle.book.proofs.Cases.{by-test}
-use Rattle.book.proofs.Readings.{totals-unopened}
+use Rattle.account.specs.declared.Account.{Account}
+use Rattle.book_model.specs.declared.Book.{Book}
+use Rattle.book_model.specs.declared.Refusal.{Refusal}
+use Rattle.book_model.specs.declared.TotalsAnswer.{TotalsAnswer}
+use Rattle.book_model.specs.declared.TotalsAnswer.the-variants as totals-answer
+use Rattle.book_model.specs.Book.{emptyBook, held}
+use Rattle.book_model.specs.Outcome.{Answer, Totals, totalsStated}
+use Rattle.book_model.specs.Read.{totalsOf}
+use Rattle.book_model.proofs.Accepted.{no-refusal-is-0}
+use Rattle.book_model.proofs.Cases.{by-test}
+use Rattle.book_model.proofs.Readings.{totals-unopened}
 use Rattle.lines.specs.Line.{malformedNumber}
 use Rattle.lines.proofs.Stores.{sets-append}
 use Rattle.file.specs.declared.LoadAnswer.{LoadAnswer}

@@ -5,11 +5,11 @@ use mathlib.Core.Bool.{cond}
 use mathlib.Core.List.{List, [], _∷_, _++_}
 use lib.Dec.{leb, eqb}
 use lib.ListN.{length, drop}
-use Rattle.book.specs.declared.Account.{Account}
-use Rattle.book.specs.declared.Book.{Book}
-use Rattle.book.specs.declared.Position.{Position}
-use Rattle.book.specs.Book.{emptyBook, held}
-use Rattle.book.specs.Read.{totalsOf}
+use Rattle.account.specs.declared.Account.{Account}
+use Rattle.book_model.specs.declared.Book.{Book}
+use Rattle.book_model.specs.declared.Position.{Position}
+use Rattle.book_model.specs.Book.{emptyBook, held}
+use Rattle.book_model.specs.Read.{totalsOf}
 use Rattle.lines.specs.Field.{justified}
 use Rattle.lines.specs.Line.{malformedNumber}
 use Rattle.file.specs.Load.{Outcome, loadOf}

@@ -4,12 +4,12 @@ use mathlib.Core.Path.{_≡_}
 use mathlib.Core.Bool.{true, false}
 use mathlib.Core.List.{List, [], _∷_}
 use lib.ListN.{length, getD}
-use Rattle.book.specs.declared.Account.{Account}
-use Rattle.book.specs.declared.Book.{Book}
-use Rattle.book.specs.declared.Position.{Position}
-use Rattle.book.specs.Book.{held}
-use Rattle.book.specs.Outcome.{noPosition}
-use Rattle.book.specs.Reached.{Reached}
+use Rattle.account.specs.declared.Account.{Account}
+use Rattle.book_model.specs.declared.Book.{Book}
+use Rattle.book_model.specs.declared.Position.{Position}
+use Rattle.book_model.specs.Book.{held}
+use Rattle.book_model.specs.Outcome.{noPosition}
+use Rattle.book_model.specs.Reached.{Reached}
 use Rattle.file.specs.Examples.{paperFile}
 use Rattle.file.specs.Loads.{endAlone}
 use Rattle.report.specs.Statement.{totalsLine, positionLine, refusalLine, bookPrinted, statementOf}

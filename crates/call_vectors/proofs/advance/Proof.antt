@@ -1,6 +1,6 @@
 -- The book after an advance is reached.
 use borrow.Author.Needs.{needs}
-use Rattle.book.proofs.Callers.{advance-reached}
+use Rattle.book_model.proofs.Callers.{advance-reached}
 use Rattle.call_vectors.proofs.advance.Statement.{statement}
 use Rattle.call_vectors.proofs.advance.Tie as tie
 

@@ -1,7 +1,7 @@
 -- Each call gives back a reached book.
 use borrow.Author.Needs.{needs}
 use mathlib.Core.Path.{sym, subst}
-use Rattle.book.specs.Reached.{Reached, empty}
+use Rattle.book_model.specs.Reached.{Reached, empty}
 use Rattle.call_vectors.proofs.call.Statement.{statement}
 use Rattle.call_vectors.proofs.call.Tie as tie
 

@@ -6,7 +6,7 @@ use mathlib.Core.Path.{_≡_, sym}
 use mathlib.Core.List.{List}
 use lib.ListN.{length, take}
 use lib.Seq.{length-take-le}
-use Rattle.book.proofs.Callers.{open-reached}
+use Rattle.book_model.proofs.Callers.{open-reached}
 use Rattle.call_vectors.proofs.open_listed.Statement.{statement}
 use Rattle.call_vectors.proofs.open_listed.Tie as tie
 

@@ -1,6 +1,6 @@
 -- The book after a rate order is reached.
 use borrow.Author.Needs.{needs}
-use Rattle.book.proofs.Callers.{rate-reached}
+use Rattle.book_model.proofs.Callers.{rate-reached}
 use Rattle.call_vectors.proofs.rate.Statement.{statement}
 use Rattle.call_vectors.proofs.rate.Tie as tie
 

@@ -1,6 +1,6 @@
 -- The book after a settlement is reached.
 use borrow.Author.Needs.{needs}
-use Rattle.book.proofs.Callers.{settle-reached}
+use Rattle.book_model.proofs.Callers.{settle-reached}
 use Rattle.call_vectors.proofs.settle.Statement.{statement}
 use Rattle.call_vectors.proofs.settle.Tie as tie
 

@@ -1,6 +1,6 @@
 -- The book after a transfer is reached.
 use borrow.Author.Needs.{needs}
-use Rattle.book.proofs.Callers.{transfer-reached}
+use Rattle.book_model.proofs.Callers.{transfer-reached}
 use Rattle.call_vectors.proofs.transfer.Statement.{statement}
 use Rattle.call_vectors.proofs.transfer.Tie as tie
 

@@ -1,9 +1,9 @@
 -- The load is on the empty book, and its answer tells what the slots get.
 use borrow.Author.Needs.{needs}
 use mathlib.Core.Path.{_≡_, sym, ap, subst, _∙_}
-use Rattle.book.specs.declared.Book.{Book}
-use Rattle.book.specs.Book.{emptyBook}
-use Rattle.book.specs.Reached.{Reached, empty}
+use Rattle.book_model.specs.declared.Book.{Book}
+use Rattle.book_model.specs.Book.{emptyBook}
+use Rattle.book_model.specs.Reached.{Reached, empty}
 use Rattle.file.specs.Load.{loadStated, loadOf}
 use Rattle.capi.proofs.Told.{number-told, count-told, line-told, start-told, end-told}
 use Rattle.capi.proofs.taborumbra_check.Statement.{statement}

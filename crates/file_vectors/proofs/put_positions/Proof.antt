@@ -1,7 +1,7 @@
 -- The book is the one that came in.
 use borrow.Author.Needs.{needs}
 use Prim.Native.Nat.{_-_}
-use Rattle.book.specs.Reached.{Reached}
+use Rattle.book_model.specs.Reached.{Reached}
 use Rattle.file_vectors.proofs.put_positions.Statement.{statement}
 use Rattle.file_vectors.proofs.put_positions.Tie as tie
 use Rattle.file_vectors.proofs.put_positions.Reads as reads

@@ -1,7 +1,7 @@
 -- The loop's invariant: the book is reached. The measure is the cases left.
 use borrow.Author.Needs.{needs}
 use mathlib.Core.Path.{sym, subst}
-use Rattle.book.specs.Reached.{Reached, empty}
+use Rattle.book_model.specs.Reached.{Reached, empty}
 use Rattle.file_vectors.proofs.run.Statement.{statement}
 use Rattle.file_vectors.proofs.run.Tie as tie
 

@@ -1,7 +1,7 @@
 -- The book after each case is reached.
 use borrow.Author.Needs.{needs}
 use mathlib.Core.Path.{sym, subst}
-use Rattle.book.specs.Reached.{Reached, empty}
+use Rattle.book_model.specs.Reached.{Reached, empty}
 use Rattle.file_vectors.proofs.run_case.Statement.{statement}
 use Rattle.file_vectors.proofs.run_case.Tie as tie
 

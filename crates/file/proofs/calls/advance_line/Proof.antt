@@ -1,6 +1,6 @@
 -- Each answer of Advance, by its case.
 use borrow.Author.Needs.{needs}
-use Rattle.book.specs.Outcome.{advanceCase}
+use Rattle.book_model.specs.Outcome.{advanceCase}
 use Rattle.file.proofs.CallAnswers.{told, call-accepted, call-refused}
 use Rattle.file.proofs.calls.advance_line.Statement.{statement}
 use Rattle.file.proofs.calls.advance_line.Tie as tie

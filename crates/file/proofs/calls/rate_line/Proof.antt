@@ -1,6 +1,6 @@
 -- Each answer of Rate, by its case.
 use borrow.Author.Needs.{needs}
-use Rattle.book.specs.Outcome.{rateCase}
+use Rattle.book_model.specs.Outcome.{rateCase}
 use Rattle.file.proofs.CallAnswers.{told, call-accepted, call-refused}
 use Rattle.file.proofs.calls.rate_line.Statement.{statement}
 use Rattle.file.proofs.calls.rate_line.Tie as tie

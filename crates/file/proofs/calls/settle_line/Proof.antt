@@ -1,6 +1,6 @@
 -- Each answer of Settle, by its case.
 use borrow.Author.Needs.{needs}
-use Rattle.book.specs.Outcome.{settleCase}
+use Rattle.book_model.specs.Outcome.{settleCase}
 use Rattle.file.proofs.CallAnswers.{told, call-accepted, call-refused}
 use Rattle.file.proofs.calls.settle_line.Statement.{statement}
 use Rattle.file.proofs.calls.settle_line.Tie as tie

@@ -1,6 +1,6 @@
 -- Each answer of Transfer, by its case.
 use borrow.Author.Needs.{needs}
-use Rattle.book.specs.Outcome.{transferCase}
+use Rattle.book_model.specs.Outcome.{transferCase}
 use Rattle.file.proofs.CallAnswers.{told, call-accepted, call-refused}
 use Rattle.file.proofs.calls.transfer_line.Statement.{statement}
 use Rattle.file.proofs.calls.transfer_line.Tie as tie

@@ -6,8 +6,8 @@ use mathlib.Core.List.{List, [], _∷_}
 use mathlib.Core.Logic.{⊎-elim}
 use Prim.Native.Nat.{ℕ, _-_, _≤_, _<_}
 use lib.ListN.{length, drop}
-use Rattle.book.specs.declared.Book.{Book}
-use Rattle.book.specs.Reached.{Reached}
+use Rattle.book_model.specs.declared.Book.{Book}
+use Rattle.book_model.specs.Reached.{Reached}
 use Rattle.lines.specs.declared.ReadAnswer.{ReadAnswer}
 use Rattle.lines.specs.Line.{readStated, lineOf}
 use Rattle.lines.specs.Lines.{lines, lineAt}

@@ -3,7 +3,7 @@ use borrow.Author.Needs.{needs}
 use native.Mathlib.Omega.{arith}
 use mathlib.Core.Path.{sym}
 use lib.Seq.{length-take-le}
-use Rattle.book.proofs.Callers.{open-reached}
+use Rattle.book_model.proofs.Callers.{open-reached}
 use Rattle.file.proofs.Openings.{gather-stops, opens-accepted, opens-refused}
 use Rattle.file.proofs.turning.open_turn.Statement.{statement}
 use Rattle.file.proofs.turning.open_turn.Tie as tie

@@ -2,7 +2,7 @@
 use borrow.Author.Needs.{needs}
 use native.Mathlib.Omega.{arith}
 use Prim.Native.Nat.{_-_}
-use Rattle.book.specs.Book.{held}
+use Rattle.book_model.specs.Book.{held}
 use Rattle.report.proofs.PositionsPut.{LinesPut, held-most, placed, none-placed, none-put, length-stays, one-more-put, all-put}
 use Rattle.report.proofs.printing.put_positions.Statement.{statement}
 use Rattle.report.proofs.printing.put_positions.Tie as tie

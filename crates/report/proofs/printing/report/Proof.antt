@@ -4,9 +4,9 @@ use native.Mathlib.Omega.{arith}
 use mathlib.Core.Path.{_≡_, sym, ap, subst, _∙_}
 use Prim.Native.Nat.{ℕ}
 use lib.Seq.{sets}
-use Rattle.book.specs.declared.Book.{Book}
-use Rattle.book.specs.Book.{emptyBook}
-use Rattle.book.specs.Reached.{Reached, empty}
+use Rattle.book_model.specs.declared.Book.{Book}
+use Rattle.book_model.specs.Book.{emptyBook}
+use Rattle.book_model.specs.Reached.{Reached, empty}
 use Rattle.file.specs.Load.{refusalNumber, loadStated, loadOf}
 use Rattle.file.proofs.LoadCallers.{load-reached}
 use Rattle.report.specs.Statement.{refusalLine}

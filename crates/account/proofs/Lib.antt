@@ -1,0 +1,15 @@
+-- Facts about the definitions.
+pub mod Cases
+pub mod Turns
+pub mod ClosedForm
+pub mod Bounds
+pub mod Segments
+pub mod Timeline
+pub mod SettledDays
+pub mod AccountSteps
+pub mod NotOverpaid
+pub mod AccountBounds
+pub mod Replays
+pub mod RangeTests
+pub mod Reckonings
+pub mod Callers

@@ -1,0 +1,59 @@
+-- `accrue_days` meets its contract, by the closed form.
+use Prim.Native.Nat.{ℕ, _*_, _/_, _%_, _≤_}
+use native.Mathlib.Omega.{arith}
+use native.Mathlib.Nat.{mul-le-mul}
+use borrow.Author.Needs.{needs}
+use Rattle.account.specs.declared.Account.{Account}
+use Rattle.account.specs.Computation.{Fits}
+use Rattle.account.proofs.Bounds.{product-bound}
+use Rattle.account.proofs.ClosedForm.{closed-form}
+use Rattle.account.proofs.accrual.accrue_days.Statement.{statement}
+use Rattle.account.proofs.accrual.accrue_days.Tie as tie
+
+-- the code's products fit
+whole-bound : (k d : ℕ) (a : Account) → k ≤ 6000 → d ≤ 1074597 → Fits a → k * (a .outstanding .0 * d / 10000000000) ≤ 6000 * 107459700
+whole-bound k d a few low h =
+    let g = product-bound d a low (h .principal) in
+    let q : a .outstanding .0 * d / 10000000000 ≤ 107459700 = omega arith in
+    mul-le-mul few q
+
+rest-bound : (k p : ℕ) → k ≤ 6000 → k * (p % 10000000000) ≤ 6000 * 10000000000
+rest-bound k p few = let r : p % 10000000000 ≤ 10000000000 = omega arith in mul-le-mul few r
+
+one : (s : tie.Start) → s .args .account .outstanding .0 * s .args .daily ≤ 1000000000000 * 1074597
+one s = product-bound (s .args .daily) (s .args .account) (s .pre .1 .0) (s .pre .0 .principal)
+
+whole : (s : tie.Start) → s .args .days .0 * (s .args .account .outstanding .0 * s .args .daily / 10000000000) ≤ 6000 * 107459700
+whole s = whole-bound (s .args .days .0) (s .args .daily) (s .args .account) (s .pre .1 .1) (s .pre .1 .0) (s .pre .0)
+
+rest : (s : tie.Start) → s .args .days .0 * (s .args .account .outstanding .0 * s .args .daily % 10000000000) ≤ 6000 * 10000000000
+rest s = rest-bound (s .args .days .0) (s .args .account .outstanding .0 * s .args .daily) (s .pre .1 .1)
+
+mul-one : tie.Need-mul-one
+mul-one c = omega (arith, one (c .before))
+
+cast-n : tie.Need-cast-n
+cast-n c = search needs
+
+mul-whole : tie.Need-mul-whole
+mul-whole c = omega (arith, whole (c .before .before))
+
+mul-rest : tie.Need-mul-rest
+mul-rest c = omega (arith, rest (c .before .before))
+
+add-rest : tie.Need-add-rest
+add-rest c = omega (arith, rest (c .before .before .before))
+
+add-due : tie.Need-add-due
+add-due c = let s = c .before .before .before .before in omega (arith, whole s, rest s)
+
+add-due-2 : tie.Need-add-due-2
+add-due-2 c = let s = c .before .before .before .before in omega (arith, whole s, rest s)
+
+returns : tie.Need-returns
+returns c =
+    let s = c .before .before .before .before .before in
+    closed-form (s .args .days .0) (s .args .daily) (s .args .account) (s .pre .0 .below)
+
+pub accrue-days-spec : {M : Type 1} → statement M
+accrue-days-spec = tie.close (tie.spec mul-one cast-n mul-whole mul-rest add-rest add-due add-due-2 returns)

@@ -1,0 +1,39 @@
+-- `pay_off` meets its contract.
+use borrow.Author.Needs.{needs}
+use Rattle.account.specs.Accrual.{paidOff}
+use Rattle.account.proofs.paying.pay_off.Statement.{statement}
+use Rattle.account.proofs.paying.pay_off.Tie as tie
+
+lesser-requires : tie.Need-lesser-requires
+lesser-requires c κs = search needs
+
+sub-principal : tie.Need-sub-principal
+sub-principal c = search needs
+
+sub-left : tie.Need-sub-left
+sub-left c = search needs
+
+sub-unpaid : tie.Need-sub-unpaid
+sub-unpaid c = search needs
+
+add-principal-paid : tie.Need-add-principal-paid
+add-principal-paid c = search needs
+
+add-interest-paid : tie.Need-add-interest-paid
+add-interest-paid c = search needs
+
+returns : tie.Need-returns
+unfolding paidOff
+returns c = rw (c .before .before .before .before .before .before .before .before .lesser .ensures)
+
+pub pay-off-spec : {M : Type 1} → statement M
+pay-off-spec =
+    tie.close
+    (tie.spec
+    lesser-requires
+    sub-principal
+    sub-left
+    sub-unpaid
+    add-principal-paid
+    add-interest-paid
+    returns)

@@ -1,0 +1,58 @@
+-- What the parts of the computation give, and the conditions of their invariants. Private contracts cite it; no public one does.
+use Prim.Native.Nat.{ℕ, zero, suc, _+_, _*_, _≤_, _<_}
+use mathlib.Core.Path.{_≡_}
+use mathlib.Core.List.{List, [], _∷_}
+use lib.ListN.{getD}
+use Rattle.account.specs.declared.Account.{Account}
+use Rattle.account.specs.declared.RateOrder.{RateOrder}
+use Rattle.account.specs.declared.Settlement.{Settlement}
+use Rattle.account.specs.Accrual.{accruedDay}
+use Rattle.account.specs.Opening.{noOrder}
+
+-- Interest
+
+-- so many days from a day on, each at its own daily rate, without a settlement
+unfoldable pub elapsed : (ℕ → ℕ) → ℕ → ℕ → Account → Account
+elapsed daily from zero a = a
+elapsed daily from (suc k) a = accruedDay (daily (from + k)) (elapsed daily from k a)
+
+-- figures that the arithmetic of one step fits
+pub record Fits (a : Account) : Type 0 where
+  pub principal : a .outstanding .0 ≤ 1000000000000
+  pub interest : a .due .0 ≤ 1000000000000
+  pub below : a .fraction < 10000000000
+  pub principal-paid : a .«principal_paid» .0 ≤ 1000000000000
+  pub interest-paid : a .«interest_paid» .0 ≤ 1000000000000
+
+-- the figures of an account after at most n days; no day brings more interest than 10^12 × 1,074,597 / 10^10 and a cent
+pub record Bounded (n : ℕ) (a : Account) : Type 0 where
+  pub principal : a .outstanding .0 + a .«principal_paid» .0 ≤ 1000000000000
+  pub below : a .fraction < 10000000000
+  pub interest : a .due .0 + a .«interest_paid» .0 ≤ n * 107459701
+
+-- Orders and settlements
+
+-- no daily rate is over that of 4 percent
+abbrev pub Moderate : List RateOrder → Type 0
+Moderate [] = Unit {0}
+Moderate (o ∷ os) = (o .daily ≤ 1074597) × Moderate os
+
+-- orders that follow one another by first day, all after one day
+abbrev pub Rising : ℕ → List RateOrder → Type 0
+Rising day [] = Unit {0}
+Rising day (o ∷ os) = (day < o .first .0) × Rising (o .first .0) os
+
+-- orders of which the first holds from day 0
+abbrev pub FromStart : List RateOrder → Type 0
+FromStart [] = ⊥
+FromStart (o ∷ os) = (o .first .0 ≡ 0) × Rising (o .first .0) os
+
+-- of n orders the one at a place holds up to a day: it has begun, and the next begins no earlier; it may begin on that day
+abbrev pub Holding : ℕ → List RateOrder → (at day : ℕ) → Type 0
+Holding n orders at day =
+    (at < n) × (getD orders at noOrder .first .0 ≤ day) × (at + 1 < n → day ≤ getD orders (at + 1) noOrder .first .0)
+
+-- the settlements follow one another by day, all after one day and none after another
+abbrev pub Timely : ℕ → List Settlement → ℕ → Type 0
+Timely from [] today = from ≤ today
+Timely from (s ∷ ss) today = (from < s .day .0) × Timely (s .day .0) ss today

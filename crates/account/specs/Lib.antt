@@ -1,0 +1,8 @@
+-- The definitions that the contracts cite. `Computation` is cited by private ones alone.
+pub mod Opening
+pub mod Accrual
+pub mod Schedule
+pub mod Standing
+pub mod Ranges
+pub mod Reckoning
+pub mod Computation

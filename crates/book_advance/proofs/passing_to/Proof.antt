@@ -1,0 +1,143 @@
+-- The refusals in the specification's order, and sums that fit: a day count is below 73,049 and a day of the right at most 6,000.
+use borrow.Author.Needs.{needs}
+use Prim.Native.Nat.{ℕ, _+_, _-_, _≤_, _<_}
+use native.Mathlib.Omega.{arith}
+use mathlib.Core.Path.{_≡_, ap, _∙_}
+use mathlib.Core.Bool.{or-true}
+use borrow.Author.Tests.{lt-ltb, le-ltb, le-leb, lt-leb}
+use Rattle.calendar.specs.Calendar.{dayCount}
+use Rattle.calendar.proofs.Cases.{count-date}
+use Rattle.calendar.proofs.Laws.{laws}
+use Rattle.book_model.specs.declared.Book.{Book}
+use Rattle.book_model.specs.declared.Refusal.the-variants as refusal
+use Rattle.book_model.specs.Advance.{lastSettled, advancedTo}
+use Rattle.book_model.specs.Book.{settlementsOf}
+use Rattle.book_model.specs.Outcome.{answered, declined, noDays}
+use Rattle.book_model.specs.Sound.{OpenSound}
+use Rattle.account.proofs.Timeline.{last-within}
+use Rattle.book_advance.proofs.passing_to.Statement.{statement}
+use Rattle.book_advance.proofs.passing_to.Tie as tie
+
+-- What is answered in each case, by the first day's count
+module _ (b : Book) (count first : ℕ) (e : first ≡ dayCount (b .first)) where
+  not-after-today : count ≤ first + b .today .0 → declined noDays refusal.Day ≡ advancedTo b count .answer
+  unfolding advancedTo
+  not-after-today le = rw (← e, le-leb count (first + b .today .0) le)
+
+  after-term : first + b .term .0 < count → declined noDays refusal.Day ≡ advancedTo b count .answer
+  unfolding advancedTo
+  after-term lt = rw (← e, lt-ltb (first + b .term .0) count lt, or-true)
+
+  module _ (after : first + b .today .0 < count) (within : count ≤ first + b .term .0) where
+    settlement-pending : first + (lastSettled b + 92) < count → declined noDays refusal.SettlementPending ≡ advancedTo b count .answer
+    unfolding advancedTo
+    settlement-pending lt =
+        rw (
+          ← e,
+          lt-leb count (first + b .today .0) after,
+          le-ltb (first + b .term .0) count within,
+          lt-ltb (first + (lastSettled b + 92)) count lt,
+        )
+
+    passes : count ≤ first + (lastSettled b + 92) → answered (record { 0 = count - (first + b .today .0) }) ≡ advancedTo b count .answer
+    unfolding advancedTo
+    passes le =
+        rw (
+          ← e,
+          lt-leb count (first + b .today .0) after,
+          le-ltb (first + b .term .0) count within,
+          le-ltb (first + (lastSettled b + 92)) count le,
+        )
+
+-- What the start knows
+module _ (s : tie.Start) where
+  known : OpenSound (s .args .book)
+  known = s .pre .0 .when-open (s .pre .1 .0)
+
+  first-most : dayCount (s .args .book .first) < 73049
+  first-most = laws .count-within (s .args .book .first) (known .first-date)
+
+  term-most : s .args .book .term .0 ≤ 6000
+  term-most = known .term-most
+
+  today-most : s .args .book .today .0 ≤ s .args .book .term .0
+  today-most = known .within-term
+
+  last-most : lastSettled (s .args .book) ≤ s .args .book .today .0
+  last-most = last-within 0 (settlementsOf (s .args .book)) (s .args .book .today .0) (known .timely)
+
+count-of-requires : tie.Need-count-of-requires
+count-of-requires c κs = search needs
+
+-- the first day is a date, so its count is that of the calendar
+first-is : (c : tie.After-count-of) → c .count-of .result ≡ dayCount (c .before .args .book .first)
+first-is c = c .count-of .ensures ∙ ap (λ (answer : ℕ × ℕ). answer .1) (count-date _ (known (c .before) .first-date))
+
+add-today : tie.Need-add-today
+add-today c =
+    let start = c .before .before in
+    omega (arith, first-is (c .before), first-most start, today-most start, term-most start)
+
+returns : tie.Need-returns
+returns c =
+    let start = c .before .before .before in
+    let first = c .before .before in
+    not-after-today (start .args .book) (start .args .count) (first .count-of .result) (first-is first) (omega arith)
+
+add-if2 : tie.Need-add-if2
+add-if2 c =
+    let start = c .before .before .before .before in
+    omega (arith, first-is (c .before .before .before), first-most start, term-most start)
+
+returns-2 : tie.Need-returns-2
+returns-2 c =
+    let start = c .before .before .before .before .before in
+    let first = c .before .before .before .before in
+    after-term (start .args .book) (start .args .count) (first .count-of .result) (first-is first) (omega arith)
+
+last-settled-requires : tie.Need-last-settled-requires
+last-settled-requires c κs = search needs
+
+add-if3 : tie.Need-add-if3
+add-if3 c =
+    let start = c .before .before .before .before .before .before .before .before in
+    omega (arith, c .before .last-settled .ensures, last-most start, today-most start, term-most start)
+
+add-if3-2 : tie.Need-add-if3-2
+add-if3-2 c =
+    let start = c .before .before .before .before .before .before .before .before in
+    let first = c .before .before .before .before .before .before .before in
+    omega (arith, first-is first, c .before .last-settled .ensures, first-most start, last-most start, today-most start, term-most start)
+
+returns-3 : tie.Need-returns-3
+returns-3 c =
+    let start = c .before .before .before .before .before .before .before .before .before in
+    let first = c .before .before .before .before .before .before .before .before in
+    settlement-pending (start .args .book) (start .args .count) (first .count-of .result) (first-is first) (omega arith) (omega arith)
+    (omega (arith, c .before .before .last-settled .ensures))
+
+sub-t9 : tie.Need-sub-t9
+sub-t9 c = search needs
+
+returns-4 : tie.Need-returns-4
+returns-4 c =
+    let start = c .before .before .before .before .before .before .before .before .before in
+    let first = c .before .before .before .before .before .before .before .before in
+    passes (start .args .book) (start .args .count) (first .count-of .result) (first-is first) (omega arith) (omega arith)
+    (omega (arith, c .before .before .last-settled .ensures))
+
+pub passing-to-spec : {M : Type 1} → statement M
+passing-to-spec =
+    tie.close
+    (tie.spec
+    count-of-requires
+    add-today
+    returns
+    add-if2
+    returns-2
+    last-settled-requires
+    add-if3
+    add-if3-2
+    returns-3
+    sub-t9
+    returns-4)

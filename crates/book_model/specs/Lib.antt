@@ -1,0 +1,16 @@
+-- The definitions that the contracts cite. No call's contract cites `Computation` or `Sound`; `Calls` is cited by the theorem over lists.
+pub mod Book
+pub mod Outcome
+pub mod Schedule
+pub mod Positions
+pub mod Open
+pub mod Advance
+pub mod Transfer
+pub mod Settle
+pub mod Read
+pub mod Rate
+pub mod Call
+pub mod Calls
+pub mod Reached
+pub mod Computation
+pub mod Sound

@@ -1,0 +1,106 @@
+-- The refusals before the day's, in the specification's order.
+use Prim.Native.Nat.{ℕ, _≤_, _<_}
+use native.Mathlib.Omega.{arith}
+use mathlib.Core.Path.{_≡_, _∙_}
+use mathlib.Core.Bool.{true, false}
+use borrow.Author.Needs.{needs}
+use borrow.Author.Tests.{lt-ltb, le-ltb, not-true, not-false}
+use Rattle.calendar.specs.Calendar.{isDate}
+use Rattle.calendar.proofs.Cases.{Counted, day-tells, no-date-tells}
+use Rattle.book_model.specs.declared.Book.{Book}
+use Rattle.book_model.specs.declared.Refusal.the-variants as refusal
+use Rattle.book_model.specs.Outcome.{refuse, noChanges}
+use Rattle.book_model.specs.Rate.{ratedFrom, rated}
+use Rattle.book_model.proofs.Kept.{sound}
+use Rattle.book_rate.proofs.rate.Statement.{statement}
+use Rattle.book_rate.proofs.rate.Tie as tie
+
+module _ (b : Book) (date annual : ℕ) where
+  unopened : b .opened ≡ false → refuse noChanges b refusal.Unopened ≡ rated b date annual
+  unfolding rated
+  unopened e = rw e
+
+  module _ (is-open : b .opened ≡ true) where
+    no-date : isDate date ≡ false → refuse noChanges b refusal.Date ≡ rated b date annual
+    unfolding rated
+    no-date d = rw (is-open, d)
+
+    module _ (count : ℕ) (told : Counted date count) where
+      over : 4000 < annual → refuse noChanges b refusal.Rate ≡ rated b date annual
+      unfolding rated
+      over lt = rw (is-open, told .is-date, lt-ltb 4000 annual lt)
+
+      from-date : annual ≤ 4000 → ratedFrom b count annual ≡ rated b date annual
+      unfolding rated
+      from-date le = rw (is-open, told .is-date, le-ltb 4000 annual le, told .is-count)
+
+counted : (c : tie.After-known-told) → Counted (c .before .before .before .before .before .args .date) (c .before .count .given .0 .0)
+counted c = day-tells _ _ (c .before .count .given .1) (c .before .before .before .day-count .ensures)
+
+refused-requires : tie.Need-refused-requires
+refused-requires c κs = search needs
+
+returns : tie.Need-returns
+returns c =
+    let s = c .before .before in
+    c .refused .ensures ∙ unopened (s .args .book) (s .args .date) (s .args .annual) (not-true _ (c .before .if1 .taken))
+
+day-count-requires : tie.Need-day-count-requires
+day-count-requires c κs = search needs
+
+enum-known-count : tie.Need-enum-known-count
+enum-known-count c = search needs
+
+enum-told : tie.Need-enum-told
+enum-told c = search needs
+
+refused-requires-2 : tie.Need-refused-requires-2
+refused-requires-2 c κs = search needs
+
+returns-2 : tie.Need-returns-2
+returns-2 c =
+    let s = c .before .before .before .before .before in
+    c .refused2 .ensures
+    ∙ no-date (s .args .book) (s .args .date) (s .args .annual) (not-false _ (c .before .before .before .before .if1 .left))
+    (no-date-tells _ (c .before .enum-told .given .1) (c .before .before .before .day-count .ensures))
+
+refused-requires-3 : tie.Need-refused-requires-3
+refused-requires-3 c κs = search needs
+
+returns-3 : tie.Need-returns-3
+returns-3 c =
+    let k = c .before .before in
+    let s = k .before .before .before .before .before in
+    c .refused3 .ensures
+    ∙ over (s .args .book) (s .args .date) (s .args .annual) (not-false _ (k .before .before .before .before .if1 .left)) _ (counted k)
+    (omega arith)
+
+rate-from-requires : tie.Need-rate-from-requires
+rate-from-requires c κs =
+    let k = c .before in
+    let s = k .before .before .before .before .before in
+    (sound (s .args .book) (s .pre), (not-false _ (k .before .before .before .before .if1 .left), omega arith))
+
+returns-4 : tie.Need-returns-4
+returns-4 c =
+    let k = c .before .before in
+    let s = k .before .before .before .before .before in
+    c .rate-from .ensures
+    ∙ from-date (s .args .book) (s .args .date) (s .args .annual) (not-false _ (k .before .before .before .before .if1 .left)) _ (counted k)
+    (omega arith)
+
+pub rate-spec : {M : Type 1} → statement M
+rate-spec =
+    tie.close
+    (tie.spec
+    refused-requires
+    returns
+    day-count-requires
+    enum-known-count
+    enum-told
+    refused-requires-2
+    returns-2
+    refused-requires-3
+    returns-3
+    rate-from-requires
+    returns-4)

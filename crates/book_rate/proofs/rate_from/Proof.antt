@@ -1,0 +1,147 @@
+-- The refusals in the specification's order, and a sum that fits: a day count is below 73,049 and a day of the right at most 6,000.
+use Prim.Native.Nat.{ℕ, _+_, _-_, _≤_, _<_}
+use native.Mathlib.Omega.{arith}
+use mathlib.Core.Path.{_≡_, ap, _∙_}
+use mathlib.Core.Bool.{or-true}
+use borrow.Author.Needs.{needs}
+use borrow.Author.Tests.{lt-ltb, le-ltb, le-leb, lt-leb}
+use lib.ListN.{length}
+use Rattle.calendar.specs.Calendar.{dayCount}
+use Rattle.calendar.proofs.Cases.{count-date}
+use Rattle.calendar.proofs.Laws.{laws}
+use Rattle.rates.specs.Rate.{dailyOf}
+use Rattle.rates.proofs.Answers.{accepted}
+use Rattle.book_model.specs.declared.Book.{Book}
+use Rattle.book_model.specs.declared.Refusal.the-variants as refusal
+use Rattle.book_model.specs.Book.{ratesOf}
+use Rattle.book_model.specs.Outcome.{refuse, noChanges}
+use Rattle.book_model.specs.Rate.{startingBefore, revised, ratedFrom}
+use Rattle.book_model.specs.Sound.{OpenSound}
+use Rattle.book_rate.proofs.rate_from.Statement.{statement}
+use Rattle.book_rate.proofs.rate_from.Tie as tie
+
+-- What is answered in each case, by the first day's count
+module _ (b : Book) (count annual first : ℕ) (e : first ≡ dayCount (b .first)) where
+  before-first : count < first → refuse noChanges b refusal.Day ≡ ratedFrom b count annual
+  unfolding ratedFrom
+  before-first lt = rw (← e, lt-ltb count (first + 0) (omega arith))
+
+  after-today : first + b .today .0 < count → refuse noChanges b refusal.Day ≡ ratedFrom b count annual
+  unfolding ratedFrom
+  after-today lt = rw (← e, lt-ltb (first + b .today .0) count lt, or-true)
+
+  module _ (from : first ≤ count) (until : count ≤ first + b .today .0) where
+    full : 16 ≤ length (startingBefore (count - first) (ratesOf b)) → refuse noChanges b refusal.BookFull ≡ ratedFrom b count annual
+    unfolding ratedFrom
+    full le =
+        rw (
+          ← e,
+          le-ltb count (first + 0) (omega arith),
+          le-ltb (first + b .today .0) count until,
+          le-leb 16 (length (startingBefore (count - first) (ratesOf b))) le,
+        )
+
+    on-day : (daily : ℕ) → daily ≡ dailyOf annual → length (startingBefore (count - first) (ratesOf b)) < 16
+        → revised b (record { first = record { 0 = count - first }; annual = annual; daily = daily }) ≡ ratedFrom b count annual
+    unfolding ratedFrom
+    on-day daily is lt =
+        rw (
+          is,
+          ← e,
+          le-ltb count (first + 0) (omega arith),
+          le-ltb (first + b .today .0) count until,
+          lt-leb 16 (length (startingBefore (count - first) (ratesOf b))) lt,
+        )
+
+known : (s : tie.Start) → OpenSound (s .args .book)
+known s = s .pre .0 .when-open (s .pre .1 .0)
+
+count-of-requires : tie.Need-count-of-requires
+count-of-requires c κs = search needs
+
+-- the first day is a date, so its count is that of the calendar
+first-is : (c : tie.After-count-of) → c .count-of .result ≡ dayCount (c .before .args .book .first)
+first-is c = c .count-of .ensures ∙ ap (λ (answer : ℕ × ℕ). answer .1) (count-date _ (known (c .before) .first-date))
+
+refused-requires : tie.Need-refused-requires
+refused-requires c κs = search needs
+
+returns : tie.Need-returns
+returns c =
+    let s = c .before .before .before in
+    let first = c .before .before in
+    c .refused .ensures ∙ before-first (s .args .book) (s .args .count) (s .args .annual) (first .count-of .result) (first-is first) (omega arith)
+
+add-if2 : tie.Need-add-if2
+add-if2 c =
+    let s = c .before .before .before in
+    let b = s .args .book in
+    omega (
+      arith,
+      first-is (c .before .before),
+      laws .count-within (b .first) (known s .first-date),
+      known s .within-term,
+      known s .term-most,
+    )
+
+refused-requires-2 : tie.Need-refused-requires-2
+refused-requires-2 c κs = search needs
+
+returns-2 : tie.Need-returns-2
+returns-2 c =
+    let s = c .before .before .before .before .before in
+    let first = c .before .before .before .before in
+    c .refused2 .ensures ∙ after-today (s .args .book) (s .args .count) (s .args .annual) (first .count-of .result) (first-is first) (omega arith)
+
+count-before-requires : tie.Need-count-before-requires
+count-before-requires c κs = known (c .before .before .before .before .before) .rates-most
+
+refused-requires-3 : tie.Need-refused-requires-3
+refused-requires-3 c κs = search needs
+
+returns-3 : tie.Need-returns-3
+returns-3 c =
+    let s = c .before .before .before .before .before .before .before .before in
+    let first = c .before .before .before .before .before .before .before in
+    c .refused3 .ensures
+    ∙ full (s .args .book) (s .args .count) (s .args .annual) (first .count-of .result) (first-is first) (omega arith) (omega arith)
+    (omega (arith, c .before .before .count-before .ensures))
+
+daily-rate-requires : tie.Need-daily-rate-requires
+daily-rate-requires c κs = search needs
+
+-- the rate is not over, so its daily rate is the table's
+daily-is : (c : tie.After-daily-rate) → c .daily-rate .result ≡ dailyOf (c .before .before .before .before .before .before .before .before .args .annual)
+daily-is c =
+    let s = c .before .before .before .before .before .before .before .before in
+    c .daily-rate .ensures ∙ ap (λ (answer : ℕ × ℕ). answer .1) (accepted (s .args .annual) (s .pre .1 .1))
+
+revise-requires : tie.Need-revise-requires
+revise-requires c κs =
+    let s = c .before .before .before .before .before .before .before .before in
+    (s .pre .0, (s .pre .1 .0, ((s .pre .1 .1, daily-is c, omega arith), omega (arith, c .before .before .count-before .ensures))))
+
+returns-4 : tie.Need-returns-4
+returns-4 c =
+    let s = c .before .before .before .before .before .before .before .before .before in
+    let first = c .before .before .before .before .before .before .before .before .count-of in
+    c .revise .ensures
+    ∙ on-day (s .args .book) (s .args .count) (s .args .annual) (first .result) (first-is (c .before .before .before .before .before .before .before .before)) (omega arith) (omega arith) _
+    (daily-is (c .before)) (omega (arith, c .before .before .before .count-before .ensures))
+
+pub rate-from-spec : {M : Type 1} → statement M
+rate-from-spec =
+    tie.close
+    (tie.spec
+    count-of-requires
+    refused-requires
+    returns
+    add-if2
+    refused-requires-2
+    returns-2
+    count-before-requires
+    refused-requires-3
+    returns-3
+    daily-rate-requires
+    revise-requires
+    returns-4)

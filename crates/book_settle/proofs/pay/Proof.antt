@@ -1,0 +1,36 @@
+-- The answer is an account: the numbers are in range.
+use borrow.Author.Needs.{needs}
+use Rattle.account.proofs.Callers.{paid-is, paid-within, paid-in-range}
+use Rattle.book_settle.proofs.pay.Statement.{statement}
+use Rattle.book_settle.proofs.pay.Tie as tie
+
+pay-requires : tie.Need-pay-requires
+pay-requires c κs = search needs
+
+enum-known-next : tie.Need-enum-known-next
+enum-known-next c = search needs
+
+enum-told : tie.Need-enum-told
+enum-told c = search needs
+
+enum-told-2 : tie.Need-enum-told-2
+enum-told-2 c = search needs
+
+returns : tie.Need-returns
+returns c =
+    let s = c .before .before .before .before in
+    paid-is (s .args .account) (s .pre .0) (s .args .cents .0) (s .pre .1) _ (c .before .before .before .pay .ensures) _ (c .before .next .given .1)
+
+returns-2 : tie.Need-returns-2
+returns-2 c =
+    let s = c .before .before .before in
+    paid-within (s .args .account) (s .pre .0) (s .args .cents .0) (s .pre .1) _ (c .before .before .pay .ensures) (c .enum-told .given .1)
+
+returns-3 : tie.Need-returns-3
+returns-3 c =
+    let s = c .before .before .before in
+    paid-in-range (s .args .account) (s .pre .0) (s .args .cents .0) (s .pre .1) _ (c .before .before .pay .ensures) (c .enum-told2 .given .1)
+
+pub pay-spec : {M : Type 1} → statement M
+pay-spec =
+    tie.close (tie.spec pay-requires enum-known-next enum-told enum-told-2 returns returns-2 returns-3)

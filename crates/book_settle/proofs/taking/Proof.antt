@@ -1,0 +1,97 @@
+-- Each way out is a case of Settle, of which the answer is told.
+use Prim.Native.Nat.{_-_}
+use native.Mathlib.Omega.{arith}
+use borrow.Author.Needs.{needs}
+use borrow.Author.Tests.{not-true, not-false}
+use mathlib.Core.Path.{_≡_, ap, _∙_}
+use mathlib.Core.Bool.{true}
+use Rattle.book_model.specs.declared.Book.{Book}
+use Rattle.account.specs.declared.Cents.{Cents}
+use Rattle.account.specs.Accrual.{interestOf}
+use Rattle.book_model.specs.Outcome.{Answer, Outcome, Taken, answered}
+use Rattle.book_model.specs.Settle.{takenOf}
+use Rattle.book_model.proofs.Settlements.{unopened, too-much, full, no-day, overpaid, accepted}
+use Rattle.book_settle.proofs.taking.Statement.{statement}
+use Rattle.book_settle.proofs.taking.Tie as tie
+
+abbrev answer-of : Outcome Taken → Answer Taken
+answer-of o = o .answer
+
+-- what is taken, made of the interest i
+taken : (b : Book) (m i : Cents) → i .0 ≡ interestOf (m .0) (b .account)
+    → answered {A = Taken} (record { interest = i; principal = record { 0 = m .0 - i .0 } }) ≡ answered (takenOf b (m .0))
+taken b m i e = rw e
+
+-- past the first test the book is open
+is-open : (c : tie.Else1) → c .before .args .book .opened ≡ true
+is-open c = not-false (c .before .args .book .opened) (c .if1 .left)
+
+returns : tie.Need-returns
+returns c =
+    let a = c .before .args in
+    ap answer-of (unopened (a .book) (a .cents) (not-true (a .book .opened) (c .if1 .taken)))
+
+returns-2 : tie.Need-returns-2
+returns-2 c =
+    let o = c .before .before in
+    let a = o .before .args in
+    ap answer-of (too-much (a .book) (a .cents) (is-open o) (omega arith))
+
+returns-3 : tie.Need-returns-3
+returns-3 c =
+    let o = c .before .before .before .before in
+    let a = o .before .args in
+    ap answer-of (full (a .book) (a .cents) (is-open o) (omega arith) (omega arith))
+
+last-settled-requires : tie.Need-last-settled-requires
+last-settled-requires c κs = search needs
+
+returns-4 : tie.Need-returns-4
+returns-4 c =
+    let o = c .before .before .before .before .before .before .before .before .before in
+    let a = o .before .args in
+    ap answer-of (no-day (a .book) (a .cents) (is-open o) (omega arith) (omega arith) (omega arith))
+
+add-if5 : tie.Need-add-if5
+add-if5 c =
+    let o = c .before .before .before .before .before .before .before .before .before .before in
+    omega (arith, o .before .pre .when-open (is-open o))
+
+returns-5 : tie.Need-returns-5
+returns-5 c =
+    let o = c .before .before .before .before .before .before .before .before .before .before .before .before in
+    let within = c .before .before .before .before .before .before .before .before .before .before .if2 .left in
+    let a = o .before .args in
+    ap answer-of (overpaid (a .book) (a .cents) (is-open o) (omega arith) (omega arith) (omega arith) (omega arith))
+
+lesser-requires : tie.Need-lesser-requires
+lesser-requires c κs = search needs
+
+sub-principal : tie.Need-sub-principal
+sub-principal c = search needs
+
+returns-6 : tie.Need-returns-6
+returns-6 c =
+    let k = c .before .before .before .before in
+    let o = k .before .before .before .before .before .before .before .before .before .before .before .before in
+    let within = k .before .before .before .before .before .before .before .before .before .before .if2 .left in
+    let free = k .before .before .before .before .before .before .before .before .if3 .left in
+    let a = o .before .args in
+    let i = c .before .before .lesser in
+    taken (a .book) (a .cents) (i .result) (i .ensures)
+    ∙ ap answer-of (accepted (a .book) (a .cents) (is-open o) (omega arith) (omega arith) (omega arith) (omega arith))
+
+pub taking-spec : {M : Type 1} → statement M
+taking-spec =
+    tie.close
+    (tie.spec
+    returns
+    returns-2
+    returns-3
+    last-settled-requires
+    returns-4
+    add-if5
+    returns-5
+    lesser-requires
+    sub-principal
+    returns-6)

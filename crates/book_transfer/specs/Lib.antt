@@ -1,0 +1,2 @@
+-- What the parts of the computation give. Private contracts alone cite it.
+pub mod Computation
