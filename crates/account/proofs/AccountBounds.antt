@@ -7,7 +7,7 @@ use mathlib.Core.Option.{Option, none, some}
 use Rattle.account.specs.declared.Account.{Account}
 use Rattle.account.specs.declared.Settlement.{Settlement}
 use Rattle.account.specs.Accrual.{worth}
-use Rattle.account.specs.Computation.{Bounded}
+use Rattle.account.specs.Invariant.{Bounded}
 use Rattle.account.specs.Standing.{settledOn, payingOff, dayBegins, accountAt, overpaid}
 use Rattle.account.proofs.Bounds.{bounded-opening, bounded-day, bounded-paid}
 use Rattle.account.proofs.NotOverpaid.{within-worth}

@@ -7,7 +7,7 @@ use mathlib.Core.List.{List, [], _∷_, _++_}
 use mathlib.Core.Option.{Option, none}
 use Rattle.account.specs.declared.Settlement.{Settlement}
 use Rattle.account.specs.Accrual.{accruedDay, paidOff}
-use Rattle.account.specs.Computation.{elapsed}
+use Rattle.account.specs.Walk.{elapsed}
 use Rattle.account.specs.Standing.{settledOn, payingOff, dayBegins, accountAt}
 use Rattle.account.proofs.SettledDays.{settled-other, settled-there}
 

@@ -8,10 +8,11 @@ use mathlib.Core.List.{List, [], _∷_}
 use lib.Dec.{leb}
 use Rattle.account.specs.declared.Account.{Account}
 use Rattle.account.specs.declared.RateOrder.{RateOrder}
-use Rattle.account.specs.Accrual.{accruedDay, paidOff, worth}
+use Rattle.account.specs.Accrual.{accruedDay, accruedDays, paidOff, worth}
 use Rattle.account.specs.Opening.{opening}
 use Rattle.account.specs.Schedule.{inForce, storedOn}
-use Rattle.account.specs.Computation.{elapsed, Fits, Bounded, Moderate}
+use Rattle.account.specs.Invariant.{Fits, Bounded, Moderate}
+use Rattle.account.specs.Walk.{elapsed}
 use Rattle.account.proofs.Cases.{choice}
 
 -- Bounded holds of an opening, and is kept
@@ -42,6 +43,11 @@ unfolding accruedDay
 bounded-day n d a low h =
     let g = product-bound d a low (omega (arith, h .principal)) in
     record { principal = h .principal; below = omega arith; interest = omega arith }
+
+pub bounded-days : (n k d : ℕ) (a : Account) → d ≤ 1074597 → Bounded n a → Bounded (n + k) (accruedDays k d a)
+unfolding accruedDays
+bounded-days n zero d a low h = rw (add-zero n) h
+bounded-days n (suc k) d a low h = rw (add-suc n k) (bounded-day (n + k) d _ low (bounded-days n k d a low h))
 
 pub bounded-elapsed : (daily : ℕ → ℕ) (from k : ℕ) (a : Account) → ((t : ℕ) → daily t ≤ 1074597) → Bounded from a → Bounded (from + k) (elapsed daily from k a)
 unfolding elapsed

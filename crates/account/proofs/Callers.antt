@@ -11,7 +11,7 @@ use Rattle.account.specs.declared.Reckoned.{Reckoned}
 use Rattle.account.specs.declared.Reckoned.the-variants.{Standing, Overpaid, OutOfRange}
 use Rattle.account.specs.declared.Settlement.{Settlement}
 use Rattle.account.specs.Accrual.{accruedDays, paidOff, worth}
-use Rattle.account.specs.Computation.{Fits, Moderate, FromStart, Timely}
+use Rattle.account.specs.Invariant.{Fits, Moderate, FromStart, Timely}
 use Rattle.account.specs.Reckoning.{accrued, paid, standing, replayed}
 use Rattle.account.specs.Schedule.{storedOn}
 use Rattle.account.specs.Standing.{accountAt, overpaid}

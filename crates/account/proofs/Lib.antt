@@ -11,5 +11,6 @@ pub mod NotOverpaid
 pub mod AccountBounds
 pub mod Replays
 pub mod RangeTests
+pub mod Walks
 pub mod Reckonings
 pub mod Callers

@@ -11,7 +11,7 @@ use Rattle.account.specs.declared.Account.{Account}
 use Rattle.account.specs.declared.Settlement.{Settlement}
 use Rattle.account.specs.Accrual.{accruedDay, worth}
 use Rattle.account.specs.Opening.{opening}
-use Rattle.account.specs.Computation.{Timely}
+use Rattle.account.specs.Invariant.{Timely}
 use Rattle.account.specs.Schedule.{lastDay}
 use Rattle.account.specs.Standing.{settledOn, payingOff, dayBegins, accountAt, isOver, some-of, overpaid}
 use Rattle.account.proofs.AccountSteps.{account-begins, begins-joined}

@@ -2,7 +2,7 @@
 use Prim.Native.Nat.{ℕ, _+_, _≤_, _<_}
 use native.Mathlib.Omega.{arith}
 use mathlib.Core.Path.{_≡_, refl, ap, _∙_}
-use mathlib.Core.Bool.{true, false}
+use mathlib.Core.Bool.{true, false, _&&_}
 use mathlib.Core.List.{List, [], _∷_}
 use borrow.Author.Tests.{ltb-true, leb-true, eqb-true, lt-ltb, le-ltb, le-leb, lt-leb, eq-eqb, ne-eqb}
 use lib.Dec.{leb, ltb, eqb}
@@ -10,10 +10,12 @@ use lib.ListN.{length, take, drop, getD}
 use Rattle.account.specs.declared.Account.{Account}
 use Rattle.account.specs.declared.RateOrder.{RateOrder}
 use Rattle.account.specs.declared.Settlement.{Settlement}
-use Rattle.account.specs.Ranges.{isAccount, isRising, isSchedule, isTimely}
+use Rattle.account.specs.Ranges.{isAccount, isFirst, isNext, isRising, isSchedule, isTimely}
 use Rattle.account.specs.Opening.{noOrder, noSettlement}
-use Rattle.account.specs.Computation.{Fits, Moderate, Rising, FromStart, Timely}
-use Rattle.account.proofs.Cases.{both-true}
+use Rattle.account.specs.Invariant.{Fits, Moderate, Rising, FromStart, Timely}
+use Rattle.account.specs.Walk.{Come}
+use Rattle.account.proofs.Cases.{both-true, by-test}
+use Rattle.account.proofs.Timeline.{timely-most}
 use Rattle.account.proofs.Turns.{remains, none-remains}
 
 -- an account
@@ -50,19 +52,19 @@ rising-says : (day : ℕ) (os : List RateOrder) → isRising day os ≡ true →
 unfolding isRising
 rising-says day [] e = (tt, tt)
 rising-says day (o ∷ os) e =
-    let h = both-true (ltb day (o .first .0)) _ e in
-    let i = both-true (leb (o .daily) 1074597) _ (h .1) in
-    let more = rising-says (o .first .0) os (i .1) in
-    ((leb-true _ _ (i .0), more .0), (ltb-true _ _ (h .0), more .1))
+    let h = both-true (isNext day o) _ e in
+    let i = both-true (ltb day (o .first .0)) _ (h .0) in
+    let more = rising-says (o .first .0) os (h .1) in
+    ((leb-true _ _ (i .1), more .0), (ltb-true _ _ (i .0), more .1))
 
 pub schedule-says : (os : List RateOrder) → isSchedule os ≡ true → Moderate os × FromStart os
 unfolding isSchedule
 schedule-says [] e = let z : _≡_ {A = ℕ} 0 1 = cc in absurd (omega arith)
 schedule-says (o ∷ os) e =
-    let h = both-true (eqb (o .first .0) 0) _ e in
-    let i = both-true (leb (o .daily) 1074597) _ (h .1) in
-    let more = rising-says (o .first .0) os (i .1) in
-    ((leb-true _ _ (i .0), more .0), (eqb-true _ _ (h .0), more .1))
+    let h = both-true (isFirst o) _ e in
+    let i = both-true (eqb (o .first .0) 0) _ (h .0) in
+    let more = rising-says (o .first .0) os (h .1) in
+    ((leb-true _ _ (i .1), more .0), (eqb-true _ _ (i .0), more .1))
 
 rising-told : (day : ℕ) (os : List RateOrder) → Moderate os → Rising day os → isRising day os ≡ true
 unfolding isRising
@@ -91,73 +93,73 @@ timely-told day (s ∷ ss) today h = rw (lt-ltb day (s .day .0) (h .0)) (timely-
 
 -- Tests place by place, off the first n places of an array
 
-schedule-first : (o : RateOrder) (os : List RateOrder) → o .first .0 ≡ 0 → o .daily ≤ 1074597 → isSchedule (o ∷ os) ≡ isRising (o .first .0) os
-unfolding isSchedule
-schedule-first o os e le = rw (eq-eqb (o .first .0) 0 e, le-leb (o .daily) 1074597 le)
-
-rising-step : (day : ℕ) (o : RateOrder) (os : List RateOrder) → day < o .first .0 → o .daily ≤ 1074597 → isRising day (o ∷ os) ≡ isRising (o .first .0) os
-unfolding isRising
-rising-step day o os lt le = rw (lt-ltb day (o .first .0) lt, le-leb (o .daily) 1074597 le)
-
 module _ (rs : List RateOrder) (n : ℕ) (room : n ≤ length rs) where
-  pub no-orders : n ≡ 0 → false ≡ isSchedule (take n rs)
+  pub no-orders : n ≡ 0 → isSchedule (take n rs) ≡ false
   unfolding isSchedule
   no-orders e = rw e
 
   module _ (lt : 0 < n) where
-    opened : take n rs ≡ getD rs 0 noOrder ∷ drop 1 (take n rs)
-    opened = remains rs n 0 room noOrder lt
-
-    pub opens-late : (getD rs 0 noOrder .first .0 ≡ 0 → ⊥) → false ≡ isSchedule (take n rs)
+    begun : isSchedule (take n rs) ≡ isFirst (getD rs 0 noOrder) && isRising (getD rs 0 noOrder .first .0) (drop 1 (take n rs))
     unfolding isSchedule
-    opens-late ne = rw (opened, ne-eqb (getD rs 0 noOrder .first .0) 0 ne)
+    begun = rw (remains rs n 0 room noOrder lt)
 
-    module _ (e : getD rs 0 noOrder .first .0 ≡ 0) where
-      pub opens-high : 1074597 < getD rs 0 noOrder .daily → false ≡ isSchedule (take n rs)
-      unfolding isSchedule
-      opens-high h = rw (opened, eq-eqb (getD rs 0 noOrder .first .0) 0 e, lt-leb (getD rs 0 noOrder .daily) 1074597 h)
+    pub begins-wrong : isFirst (getD rs 0 noOrder) ≡ false → isSchedule (take n rs) ≡ false
+    begins-wrong e = begun ∙ rw e
 
-      pub opens : getD rs 0 noOrder .daily ≤ 1074597 → isSchedule (take n rs) ≡ isRising (getD rs 0 noOrder .first .0) (drop 1 (take n rs))
-      opens le = ap isSchedule opened ∙ schedule-first (getD rs 0 noOrder) (drop 1 (take n rs)) e le
+    pub begins-right : isFirst (getD rs 0 noOrder) ≡ true → Come n rs 0 0
+    begins-right e =
+        let h = both-true (eqb (getD rs 0 noOrder .first .0) 0) _ e in
+        record {
+          within = lt;
+          begun = omega (arith, eqb-true (getD rs 0 noOrder .first .0) 0 (h .0));
+          low = leb-true _ _ (h .1);
+          next = λ _ _. omega arith;
+          left = begun ∙ rw e;
+        }
 
-  module _ (day i : ℕ) where
-    pub all-rising : n ≤ i → i ≤ n → isRising day (drop i (take n rs)) ≡ true
+  module _ (day at : ℕ) where
+    pub all-rising : n ≤ at → at ≤ n → isRising day (drop at (take n rs)) ≡ true
     unfolding isRising
-    all-rising ge le = rw (none-remains rs n i room ge le)
+    all-rising ge le = rw (none-remains rs n at room ge le)
 
-    module _ (lt : i < n) where
-      pub not-rising : getD rs i noOrder .first .0 ≤ day → isRising day (drop i (take n rs)) ≡ false
+    module _ (lt : at < n) where
+      turned : isRising day (drop at (take n rs)) ≡ isNext day (getD rs at noOrder) && isRising (getD rs at noOrder .first .0) (drop (at + 1) (take n rs))
       unfolding isRising
-      not-rising h = rw (remains rs n i room noOrder lt, le-ltb day (getD rs i noOrder .first .0) h)
+      turned = rw (remains rs n at room noOrder lt)
 
-      module _ (later : day < getD rs i noOrder .first .0) where
-        pub rising-high : 1074597 < getD rs i noOrder .daily → isRising day (drop i (take n rs)) ≡ false
-        unfolding isRising
-        rising-high h =
-            rw (remains rs n i room noOrder lt, lt-ltb day (getD rs i noOrder .first .0) later, lt-leb (getD rs i noOrder .daily) 1074597 h)
+      pub next-wrong : isNext day (getD rs at noOrder) ≡ false → isRising day (drop at (take n rs)) ≡ false
+      next-wrong e = turned ∙ rw e
 
-        pub rising-turn : getD rs i noOrder .daily ≤ 1074597
-            → isRising day (drop i (take n rs)) ≡ isRising (getD rs i noOrder .first .0) (drop (i + 1) (take n rs))
-        rising-turn h =
-            ap (isRising day) (remains rs n i room noOrder lt)
-            ∙ rising-step day (getD rs i noOrder) (drop (i + 1) (take n rs)) later h
+      pub next-right : isNext day (getD rs at noOrder) ≡ true
+          → isRising day (drop at (take n rs)) ≡ isRising (getD rs at noOrder .first .0) (drop (at + 1) (take n rs))
+      next-right e = turned ∙ rw e
 
 timely-step : (day : ℕ) (s : Settlement) (ss : List Settlement) (today : ℕ) → day < s .day .0 → isTimely day (s ∷ ss) today ≡ isTimely (s .day .0) ss today
 unfolding isTimely
 timely-step day s ss today lt = rw (lt-ltb day (s .day .0) lt)
 
 module _ (ss : List Settlement) (n : ℕ) (room : n ≤ length ss) (day today i : ℕ) where
-  pub all-timely : n ≤ i → i ≤ n → isTimely day (drop i (take n ss)) today ≡ leb day today
+  pub all-timely : n ≤ i → i ≤ n → day ≤ today → isTimely day (drop i (take n ss)) today ≡ true
   unfolding isTimely
-  all-timely ge le = rw (none-remains ss n i room ge le)
+  all-timely ge le by = rw (none-remains ss n i room ge le, le-leb day today by)
 
   module _ (lt : i < n) where
-    pub not-timely : getD ss i noSettlement .day .0 ≤ day → isTimely day (drop i (take n ss)) today ≡ false
+    pub not-later : getD ss i noSettlement .day .0 ≤ day → isTimely day (drop i (take n ss)) today ≡ false
     unfolding isTimely
-    not-timely h = rw (remains ss n i room noSettlement lt, le-ltb day (getD ss i noSettlement .day .0) h)
+    not-later h = rw (remains ss n i room noSettlement lt, le-ltb day (getD ss i noSettlement .day .0) h)
 
     pub timely-turn : day < getD ss i noSettlement .day .0
         → isTimely day (drop i (take n ss)) today ≡ isTimely (getD ss i noSettlement .day .0) (drop (i + 1) (take n ss)) today
     timely-turn h =
         ap (λ (l : List Settlement). isTimely day l today) (remains ss n i room noSettlement lt)
         ∙ timely-step day (getD ss i noSettlement) (drop (i + 1) (take n ss)) today h
+
+    pub after-today : today < getD ss i noSettlement .day .0 → isTimely day (drop i (take n ss)) today ≡ false
+    after-today late =
+        by-test (isTimely day (drop i (take n ss)) today) (λ e. absurd (late-not (timely-says day (drop i (take n ss)) today e))) (λ e. e)
+      where
+        late-not : Timely day (drop i (take n ss)) today → ⊥
+        late-not h =
+            let t : Timely day (getD ss i noSettlement ∷ drop (i + 1) (take n ss)) today = rw (remains ss n i room noSettlement lt) at h in
+            let most = timely-most (getD ss i noSettlement .day .0) (drop (i + 1) (take n ss)) today (t .1) in
+            omega (arith, most)

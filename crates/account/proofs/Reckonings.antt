@@ -14,6 +14,7 @@ use Rattle.account.specs.Accrual.{accruedDays, paidOff, worth}
 use Rattle.account.specs.Ranges.{isAccount, isSchedule, isTimely}
 use Rattle.account.specs.Reckoning.{accrued, paid, standing, replayed}
 use Rattle.account.specs.Schedule.{storedOn}
+use Rattle.account.proofs.Cases.{by-test}
 
 module _ (a : Account) where
   module _ (d n : ℕ) where
@@ -79,14 +80,16 @@ module _ (recognised : ℕ) (rates : List RateOrder) (rated : ℕ) (ss : List Se
           no-schedule e =
               rw (le-ltb 1000000000000 recognised small, le-ltb 6000 today soon, le-ltb 16 rated few, le-ltb 240 settled some, e)
 
-          module _ (schedule : isSchedule (take rated rates) ≡ true) where
-            pub untimely : isTimely 0 (take settled ss) today ≡ false → OutOfRange ≡ answer
-            unfolding replayed
-            untimely e =
-                rw (le-ltb 1000000000000 recognised small, le-ltb 6000 today soon, le-ltb 16 rated few, le-ltb 240 settled some, schedule, e)
+          pub replays : isSchedule (take rated rates) ≡ true → isTimely 0 (take settled ss) today ≡ true
+              → standing recognised (storedOn (take rated rates)) (take settled ss) today ≡ answer
+          unfolding replayed
+          replays schedule e =
+              rw (le-ltb 1000000000000 recognised small, le-ltb 6000 today soon, le-ltb 16 rated few, le-ltb 240 settled some, schedule, e)
 
-            pub replays : isTimely 0 (take settled ss) today ≡ true
-                → standing recognised (storedOn (take rated rates)) (take settled ss) today ≡ answer
-            unfolding replayed
-            replays e =
-                rw (le-ltb 1000000000000 recognised small, le-ltb 6000 today soon, le-ltb 16 rated few, le-ltb 240 settled some, schedule, e)
+          untimely-schedule : isSchedule (take rated rates) ≡ true → isTimely 0 (take settled ss) today ≡ false → OutOfRange ≡ answer
+          unfolding replayed
+          untimely-schedule schedule e =
+              rw (le-ltb 1000000000000 recognised small, le-ltb 6000 today soon, le-ltb 16 rated few, le-ltb 240 settled some, schedule, e)
+
+          pub untimely : isTimely 0 (take settled ss) today ≡ false → OutOfRange ≡ answer
+          untimely e = by-test (isSchedule (take rated rates)) (λ s. untimely-schedule s e) no-schedule

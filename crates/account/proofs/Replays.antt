@@ -15,7 +15,8 @@ use Rattle.account.specs.declared.Reckoned.{Reckoned}
 use Rattle.account.specs.declared.Reckoned.the-variants.{Standing, Overpaid}
 use Rattle.account.specs.Accrual.{paidOff, worth}
 use Rattle.account.specs.Opening.{opening, noSettlement}
-use Rattle.account.specs.Computation.{elapsed, Timely}
+use Rattle.account.specs.Invariant.{Timely}
+use Rattle.account.specs.Walk.{elapsed}
 use Rattle.account.specs.Reckoning.{standing}
 use Rattle.account.specs.Standing.{settledOn, dayBegins, accountAt, isOver, some-of, overpaid}
 use Rattle.account.proofs.AccountSteps.{begins-same, account-elapsed, account-paid-off}
@@ -28,10 +29,6 @@ replayFrom daily a from [] today = Standing (elapsed daily from (today - from) a
 replayFrom daily a from (s ∷ ss) today =
     cond (ltb (worth (elapsed daily from (s .day .0 - from) a)) (s .cents .0)) Overpaid
     (replayFrom daily (paidOff (s .cents .0) (elapsed daily from (s .day .0 - from) a)) (s .day .0) ss today)
-
-pub timely-most : (from : ℕ) (ss : List Settlement) (today : ℕ) → Timely from ss today → from ≤ today
-timely-most from [] today h = h
-timely-most from (s ∷ ss) today h = omega (arith, h .0, timely-most (s .day .0) ss today (h .1))
 
 -- before the first of the settlements to come there is none
 none-before : (s : Settlement) (ss : List Settlement) (today t : ℕ) → Timely (s .day .0) ss today → t < s .day .0 → settledOn (s ∷ ss) t ≡ none
@@ -91,25 +88,41 @@ module _ (cents : ℕ) (daily : ℕ → ℕ) where
   unfolding standing overpaid accountAt dayBegins settledOn
   replay-whole ss today timely = replay-from [] ss 0 today (λ t lt. refl) timely
 
--- One turn of the loop over the settlements
+-- One turn of the loop over the settlements: `x` is what the whole replay gives, and `over` whether a settlement so far was over
 
-module _ (daily : ℕ → ℕ) (ss : List Settlement) (n i from today : ℕ) (le : n ≤ length ss) where
-  pub timely-turn : i < n → Timely from (drop i (take n ss)) today
-      → (from < getD ss i noSettlement .day .0) × Timely (getD ss i noSettlement .day .0) (drop (i + 1) (take n ss)) today
-  timely-turn lt h = rw (remains ss n i le noSettlement lt) at h
+over-kept : (over : Bool) (x r : Reckoned) → x ≡ cond over Overpaid r → r ≡ Overpaid → x ≡ Overpaid
+over-kept true x r e f = e
+over-kept false x r e f = e ∙ f
 
-  module _ (a before : Account) (x : Reckoned) (e : before ≡ elapsed daily from (getD ss i noSettlement .day .0 - from) a)
-      (lt : i < n) (inv : replayFrom daily a from (drop i (take n ss)) today ≡ x) where
-    pub replay-over : worth before < getD ss i noSettlement .cents .0 → Overpaid ≡ x
+pub is-over : (over : Bool) (r : Reckoned) → over ≡ true → Overpaid ≡ cond over Overpaid r
+is-over over r e = rw e
+
+pub not-over : (over : Bool) (r : Reckoned) → over ≡ false → r ≡ cond over Overpaid r
+not-over over r e = rw e
+
+module _ (daily : ℕ → ℕ) (ss : List Settlement) (n i from today : ℕ) (le : n ≤ length ss) (a : Account) (x : Reckoned) (over : Bool)
+    (inv : x ≡ cond over Overpaid (replayFrom daily a from (drop i (take n ss)) today)) where
+  module _ (before : Account) (e : before ≡ elapsed daily from (getD ss i noSettlement .day .0 - from) a) (lt : i < n) where
+    turned : replayFrom daily a from (drop i (take n ss)) today
+        ≡ cond (ltb (worth before) (getD ss i noSettlement .cents .0)) Overpaid
+        (replayFrom daily (paidOff (getD ss i noSettlement .cents .0) before) (getD ss i noSettlement .day .0) (drop (i + 1) (take n ss)) today)
     unfolding replayFrom
-    replay-over over = rw (remains ss n i le noSettlement lt, ← e, lt-ltb _ _ over) at inv
+    turned = rw (remains ss n i le noSettlement lt, e)
+
+    pub replay-over : worth before < getD ss i noSettlement .cents .0 → x ≡ Overpaid
+    replay-over h = over-kept over x _ inv (turned ∙ rw (lt-ltb (worth before) (getD ss i noSettlement .cents .0) h))
 
     pub replay-turn : (next : Account) → getD ss i noSettlement .cents .0 ≤ worth before → next ≡ paidOff (getD ss i noSettlement .cents .0) before
-        → replayFrom daily next (getD ss i noSettlement .day .0) (drop (i + 1) (take n ss)) today ≡ x
-    unfolding replayFrom
-    replay-turn next within f = rw f (rw (remains ss n i le noSettlement lt, ← e, le-ltb _ _ within) at inv)
+        → x ≡ cond over Overpaid (replayFrom daily next (getD ss i noSettlement .day .0) (drop (i + 1) (take n ss)) today)
+    replay-turn next within f =
+        inv
+        ∙ ap (λ (r : Reckoned). cond over Overpaid r)
+        (turned ∙ rw (le-ltb (worth before) (getD ss i noSettlement .cents .0) within, f))
 
-  pub replay-end : (a last : Account) (x : Reckoned) → last ≡ elapsed daily from (today - from) a → n ≤ i → i ≤ n
-      → replayFrom daily a from (drop i (take n ss)) today ≡ x → Standing last ≡ x
+  ended : (last : Account) → last ≡ elapsed daily from (today - from) a → n ≤ i → i ≤ n
+      → replayFrom daily a from (drop i (take n ss)) today ≡ Standing last
   unfolding replayFrom
-  replay-end a last x e ge most inv = rw (none-remains ss n i le ge most, ← e) at inv
+  ended last e ge most = rw (none-remains ss n i le ge most, e)
+
+  pub replay-end : (last : Account) → last ≡ elapsed daily from (today - from) a → n ≤ i → i ≤ n → x ≡ cond over Overpaid (Standing last)
+  replay-end last e ge most = inv ∙ ap (λ (r : Reckoned). cond over Overpaid r) (ended last e ge most)

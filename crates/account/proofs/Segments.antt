@@ -14,7 +14,13 @@ use Rattle.account.specs.declared.RateOrder.{RateOrder}
 use Rattle.account.specs.Opening.{noOrder}
 use Rattle.account.specs.Schedule.{inForce, storedOn}
 use Rattle.account.specs.Accrual.{accruedDays}
-use Rattle.account.specs.Computation.{elapsed, Moderate, Rising, FromStart, Holding}
+use Rattle.account.specs.Invariant.{Moderate, Rising, FromStart}
+use Rattle.account.specs.Walk.{elapsed}
+
+-- of n orders the one at a place holds up to a day: it has begun, and the next begins no earlier; it may begin on that day
+abbrev pub Holding : ℕ → List RateOrder → (at day : ℕ) → Type 0
+Holding n orders at day =
+    (at < n) × (getD orders at noOrder .first .0 ≤ day) × (at + 1 < n → day ≤ getD orders (at + 1) noOrder .first .0)
 
 -- Properties of elapsed
 
@@ -59,30 +65,7 @@ in-force-at of o daily (suc n) (x ∷ rs) zero t r room lt began until =
 in-force-at of o daily (suc n) (x ∷ rs) (suc at) t r room lt began until =
     in-force-at of x (cond (leb (o .first .0) t) (of o) daily) n rs at t (r .1) (omega arith) (omega arith) began (λ l. until (omega arith))
 
-follows : (o : RateOrder) (n : ℕ) (rs : List RateOrder) (at : ℕ) → Rising (o .first .0) (take n rs) → n ≤ length rs → suc at < suc n
-    → getD (o ∷ rs) at noOrder .first .0 < getD (o ∷ rs) (suc at) noOrder .first .0
-follows o zero rs at r room lt = absurd (omega arith)
-follows o (suc n) [] at r room lt = absurd (omega arith)
-follows o (suc n) (x ∷ rs) zero r room lt = r .0
-follows o (suc n) (x ∷ rs) (suc at) r room lt = follows x n rs at (r .1) (omega arith) (omega arith)
-
 -- Stored orders, the first n of an array: the first from day 0, and the others after it
-
--- from day 0 on the first holds
-pub first-holds : (n : ℕ) (rs : List RateOrder) → FromStart (take n rs) → n ≤ length rs → Holding n rs 0 0
-first-holds zero rs h room = absurd h
-first-holds (suc n) [] h room = absurd (omega arith)
-first-holds (suc n) (o ∷ rs) h room = (omega arith, omega (arith, h .0), λ l. omega arith)
-
--- on the day on which the next begins, it holds
-pub next-holds : (n : ℕ) (rs : List RateOrder) (at : ℕ) → FromStart (take n rs) → n ≤ length rs → at + 1 < n
-    → Holding n rs (at + 1) (getD rs (at + 1) noOrder .first .0)
-next-holds zero rs at h room lt = absurd h
-next-holds (suc n) [] at h room lt = absurd (omega arith)
-next-holds (suc n) (o ∷ rs) at h room lt = (lt, omega arith, later)
-  where
-    later : at + 1 + 1 < suc n → getD (o ∷ rs) (at + 1) noOrder .first .0 ≤ getD (o ∷ rs) (at + 1 + 1) noOrder .first .0
-    later l = rw (add-one (at + 1)) (omega (arith, follows o n rs (at + 1) (h .1) (omega arith) (omega arith)))
 
 daily-at : (n : ℕ) (rs : List RateOrder) (at t : ℕ) → FromStart (take n rs) → n ≤ length rs → at < n → getD rs at noOrder .first .0 ≤ t
     → (at + 1 < n → t < getD rs (at + 1) noOrder .first .0) → storedOn (take n rs) t ≡ getD rs at noOrder .daily
@@ -91,13 +74,6 @@ daily-at (suc n) [] at t h room lt began until = absurd (omega arith)
 daily-at (suc n) (o ∷ rs) at t h room lt began until =
     in-force-at (λ (x : RateOrder). x .daily) o 0 n rs at t (h .1) (omega arith) lt began
     (λ l. subst (λ (k : ℕ). t < getD (o ∷ rs) k noOrder .first .0) (add-one at) (until (omega (arith, add-one at))))
-
--- the daily rate of an order
-pub moderate-at : (n : ℕ) (rs : List RateOrder) (at : ℕ) → Moderate (take n rs) → n ≤ length rs → at < n → getD rs at noOrder .daily ≤ 1074597
-moderate-at zero rs at p room lt = absurd (omega arith)
-moderate-at (suc n) [] at p room lt = absurd (omega arith)
-moderate-at (suc n) (o ∷ rs) zero p room lt = p .0
-moderate-at (suc n) (o ∷ rs) (suc at) p room lt = moderate-at n rs at (p .1) (omega arith) (omega arith)
 
 -- the days up to a later one, which the next order doesn't precede, at the daily rate of the order that holds
 pub segment : (n : ℕ) (rs : List RateOrder) (at from day end : ℕ) (a now : Account) → FromStart (take n rs) → n ≤ length rs

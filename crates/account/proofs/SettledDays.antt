@@ -8,7 +8,7 @@ use mathlib.Core.Option.{Option, none, some}
 use borrow.Author.Tests.{eqb-true, eqb-false, eq-eqb, ne-eqb}
 use lib.Dec.{eqb}
 use Rattle.account.specs.declared.Settlement.{Settlement}
-use Rattle.account.specs.Computation.{Timely}
+use Rattle.account.specs.Invariant.{Timely}
 use Rattle.account.specs.Schedule.{lastDay}
 use Rattle.account.specs.Standing.{settledOn}
 use Rattle.account.proofs.Cases.{by-test}

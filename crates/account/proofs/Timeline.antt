@@ -5,7 +5,7 @@ use mathlib.Core.Path.{_≡_, refl}
 use mathlib.Core.List.{List, [], _∷_, _++_}
 use Rattle.account.specs.declared.Settlement.{Settlement}
 use Rattle.account.specs.Schedule.{lastDay}
-use Rattle.account.specs.Computation.{Timely}
+use Rattle.account.specs.Invariant.{Timely}
 
 -- Properties of a later today
 
@@ -30,3 +30,9 @@ pub timely-joined : (from : ℕ) (ss : List Settlement) (s : Settlement) (today 
 unfolding lastDay
 timely-joined from [] s today lt le t = (lt, le)
 timely-joined from (x ∷ ss) s today lt le t = (t .0, timely-joined (x .day .0) ss s today lt le (t .1))
+
+-- Properties of today
+
+pub timely-most : (from : ℕ) (ss : List Settlement) (today : ℕ) → Timely from ss today → from ≤ today
+timely-most from [] today h = h
+timely-most from (s ∷ ss) today h = omega (arith, h .0, timely-most (s .day .0) ss today (h .1))

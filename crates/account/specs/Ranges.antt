@@ -15,15 +15,23 @@ isAccount a =
     && (ltb (a .fraction) 10000000000
     && (leb (a .«principal_paid» .0) 1000000000000 && leb (a .«interest_paid» .0) 1000000000000)))
 
--- each order begins after a day and after the order before it, and its daily rate is at most that of 4 percent
+-- an order that holds from day 0, its daily rate at most that of 4 percent
+abbrev pub isFirst : RateOrder → Bool
+isFirst o = eqb (o .first .0) 0 && leb (o .daily) 1074597
+
+-- an order that begins after a day, its daily rate at most that of 4 percent
+abbrev pub isNext : ℕ → RateOrder → Bool
+isNext day o = ltb day (o .first .0) && leb (o .daily) 1074597
+
+-- each order begins after a day and after the order before it
 unfoldable pub isRising : ℕ → List RateOrder → Bool
 isRising day [] = true
-isRising day (o ∷ os) = ltb day (o .first .0) && (leb (o .daily) 1074597 && isRising (o .first .0) os)
+isRising day (o ∷ os) = isNext day o && isRising (o .first .0) os
 
 -- the first of them holds from day 0
 unfoldable pub isSchedule : List RateOrder → Bool
 isSchedule [] = false
-isSchedule (o ∷ os) = eqb (o .first .0) 0 && (leb (o .daily) 1074597 && isRising (o .first .0) os)
+isSchedule (o ∷ os) = isFirst o && isRising (o .first .0) os
 
 -- each settlement is after a day and after the one before it, and none is after today
 unfoldable pub isTimely : ℕ → List Settlement → ℕ → Bool

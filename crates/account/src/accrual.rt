@@ -1,16 +1,19 @@
 // Interest accrues by days.
 ghost use mathlib.Core.Path.{_≡_};
-ghost use Prim.Native.Nat.{_-_, _≤_};
+ghost use mathlib.Core.Bool.{true, false};
+ghost use Prim.Native.Nat.{_≤_};
 ghost use lib.ListN.{take};
 ghost use Rattle.account.specs.Accrual.{accruedDays};
 ghost use Rattle.account.specs.Reckoning.{accrued};
-ghost use Rattle.account.specs.Schedule.{storedOn};
-ghost use Rattle.account.specs.Computation.{elapsed, Fits, Bounded, Moderate, FromStart, Holding};
+ghost use Rattle.account.specs.Invariant.{Fits, Bounded};
+ghost use Rattle.account.specs.Ranges.{isSchedule};
+ghost use Rattle.account.specs.Walk.{Come, Gone};
 use crate::Account;
 use crate::Day;
 use crate::RateOrder;
 use crate::Reckoned;
 use crate::ranges::is_account;
+use crate::ranges::is_next;
 
 // Units of interest in a cent.
 const CENT: u64 = 10000000000;
@@ -49,13 +52,14 @@ pub fn accrue(account: Account, daily: u64, days: Day) -> Reckoned
     Reckoned::Standing(next)
 }
 
-// The account on a day, and the place of the order that holds up to it.
+// The account on a day, and the place of the order that holds up to it; or that the orders on the way are no schedule.
 pub struct Elapsed {
     pub account: Account,
     pub at: usize,
+    pub ordered: bool,
 }
 
-// The interest of the days from `from` up to `end`, order by order; the order at `place` holds up to `from`.
+// The interest of the days from `from` up to `end`, order by order, each tested as the walk comes to it; the order at `place` holds up to `from`.
 pub fn elapse(
     account: Account,
     rates: [RateOrder; Account::RATES],
@@ -65,11 +69,10 @@ pub fn elapse(
     end: Day,
 ) -> Elapsed
     requires { ⌜ Bounded (from .0) account ⌝ }
-    requires { ⌜ (from .0 ≤ end .0) × (end .0 ≤ 6000) ⌝ }
-    requires { ⌜ (rated ≤ 16) × Moderate (take rated rates) × FromStart (take rated rates) ⌝ }
-    requires { ⌜ Holding rated rates place (from .0) ⌝ }
-    ensures { λ r. ⌜ r .account ≡ elapsed (storedOn (take rated rates)) (from .0) (end .0 - from .0) account ⌝ }
-    ensures { λ r. ⌜ Holding rated rates (r .at) (end .0) ⌝ }
+    requires { ⌜ (from .0 ≤ end .0) × (end .0 ≤ 6000) × (rated ≤ 16) ⌝ }
+    requires { ⌜ Come rated rates place (from .0) ⌝ }
+    ensures { λ r. ⌜ (r .ordered ≡ true → Gone rated rates account (from .0) (end .0) (r .account) (r .at)) ⌝ }
+    ensures { λ r. ⌜ (r .ordered ≡ false → isSchedule (take rated rates) ≡ false) ⌝ }
 {
     let mut next = account;
     let mut at = place;
@@ -77,6 +80,13 @@ pub fn elapse(
     while at + 1 < rated && rates[at + 1].first.0 < end.0 {
         let order = rates[at];
         let later = rates[at + 1];
+        if !is_next(order, later) {
+            return Elapsed {
+                account: next,
+                at: at,
+                ordered: false,
+            };
+        }
         let change = later.first;
         let days = change.0 - day.0;
         let now = next;
@@ -89,5 +99,6 @@ pub fn elapse(
     Elapsed {
         account: accrue_days(next, order.daily, Day(days)),
         at: at,
+        ordered: true,
     }
 }

@@ -2,7 +2,7 @@
 ghost use mathlib.Core.Path.{_≡_};
 ghost use Prim.Native.Nat.{_≤_, min};
 ghost use Rattle.account.specs.Accrual.{paidOff, worth};
-ghost use Rattle.account.specs.Computation.{Fits};
+ghost use Rattle.account.specs.Invariant.{Fits};
 ghost use Rattle.account.specs.Reckoning.{paid};
 use crate::Account;
 use crate::Cents;

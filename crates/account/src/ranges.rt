@@ -1,12 +1,11 @@
 // Numbers within which the arithmetic of an account fits 64 bits.
 ghost use mathlib.Core.Path.{_≡_};
-ghost use Prim.Native.Nat.{_≤_};
-ghost use lib.ListN.{take};
-ghost use Rattle.account.specs.Ranges.{isAccount, isSchedule, isTimely};
+ghost use Prim.Native.Nat.{_+_, _≤_, _<_};
+ghost use lib.ListN.{drop, getD, take};
+ghost use Rattle.account.specs.Opening.{noOrder};
+ghost use Rattle.account.specs.Ranges.{isAccount, isFirst, isNext, isRising};
 use crate::Account;
-use crate::Day;
 use crate::RateOrder;
-use crate::Settlement;
 
 // Units of interest in a cent.
 const CENT: u64 = 10000000000;
@@ -29,55 +28,39 @@ pub fn is_account(account: Account) -> bool
     account.interest_paid.0 <= Account::CENTS
 }
 
-// The first order holds from day 0 on, each of the others begins after the one before it, and none has too great a daily rate.
-pub fn is_schedule(rates: [RateOrder; Account::RATES], rated: usize) -> bool
-    requires { ⌜ rated ≤ 16 ⌝ }
-    ensures { λ r. ⌜ r ≡ isSchedule (take rated rates) ⌝ }
+// Whether an order may be the first: it holds from day 0 on, at a daily rate that is not too great.
+pub fn is_first(order: RateOrder) -> bool
+    ensures { λ r. ⌜ r ≡ isFirst order ⌝ }
 {
-    if rated == 0 {
+    if order.first.0 != 0 {
         return false;
     }
-    let opening = rates[0];
-    if opening.first.0 != 0 {
-        return false;
-    }
-    if Account::DAILY < opening.daily {
-        return false;
-    }
-    let mut before = opening.first;
-    let mut i: usize = 1;
-    while i < rated {
-        let order = rates[i];
-        if order.first.0 <= before.0 {
-            return false;
-        }
-        if Account::DAILY < order.daily {
-            return false;
-        }
-        before = order.first;
-        i += 1;
-    }
-    true
+    order.daily <= Account::DAILY
 }
 
-// Each settlement is on a later day than the one before it, the first after day 0 and the last by today.
-pub fn is_timely(
-    settlements: [Settlement; Account::SETTLEMENTS],
-    settled: usize,
-    today: Day,
-) -> bool
-    requires { ⌜ settled ≤ 240 ⌝ }
-    ensures { λ r. ⌜ r ≡ isTimely 0 (take settled settlements) (today .0) ⌝ }
+// Whether an order may stand behind another: it begins later, at a daily rate that is not too great.
+pub fn is_next(order: RateOrder, later: RateOrder) -> bool
+    ensures { λ r. ⌜ r ≡ isNext (order .first .0) later ⌝ }
 {
-    let mut before = Day(0);
-    let mut i: usize = 0;
-    while i < settled {
-        let settlement = settlements[i];
-        if settlement.day.0 <= before.0 {
+    if later.first.0 <= order.first.0 {
+        return false;
+    }
+    later.daily <= Account::DAILY
+}
+
+// Whether each order behind a place may stand behind the one before it.
+pub fn are_rising(rates: [RateOrder; Account::RATES], rated: usize, place: usize) -> bool
+    requires { ⌜ (place < rated) × (rated ≤ 16) ⌝ }
+    ensures { λ r. ⌜ r ≡ isRising (getD rates place noOrder .first .0) (drop (place + 1) (take rated rates)) ⌝ }
+{
+    let mut at = place;
+    while at + 1 < rated {
+        let order = rates[at];
+        let later = rates[at + 1];
+        if !is_next(order, later) {
             return false;
         }
-        before = settlement.day;
-        i += 1;
+        at += 1;
     }
-    before.0 <= today.0
+    true
 }

@@ -1,10 +1,8 @@
 // The account that rates and settlements lead to, from the opening on.
 ghost use mathlib.Core.Path.{_≡_};
 ghost use Prim.Native.Nat.{_≤_};
-ghost use lib.ListN.{take};
-ghost use Rattle.account.specs.Computation.{Moderate, FromStart, Timely};
-ghost use Rattle.account.specs.Reckoning.{standing, replayed};
-ghost use Rattle.account.specs.Schedule.{storedOn};
+ghost use Rattle.account.specs.Reckoning.{replayed};
+ghost use Rattle.account.specs.Walk.{Come};
 use crate::Account;
 use crate::Cents;
 use crate::Day;
@@ -13,10 +11,11 @@ use crate::Reckoned;
 use crate::Settlement;
 use crate::accrual::elapse;
 use crate::paying::pay_off;
-use crate::ranges::is_schedule;
-use crate::ranges::is_timely;
+use crate::ranges::are_rising;
+use crate::ranges::is_first;
 
-// From the opening to today, settlement by settlement: the cost follows settlements and rates, not days.
+// From the opening to today, settlement by settlement: the cost follows settlements and rates, not days. Each settlement and each order is
+// tested as the walk comes to it. A settlement that is over is not paid, and the walk goes on: numbers out of range are told before it.
 fn replay_all(
     recognised: Cents,
     rates: [RateOrder; Account::RATES],
@@ -25,10 +24,9 @@ fn replay_all(
     settled: usize,
     today: Day,
 ) -> Reckoned
-    requires { ⌜ (recognised .0 ≤ 1000000000000) × (today .0 ≤ 6000) ⌝ }
-    requires { ⌜ (rated ≤ 16) × Moderate (take rated rates) × FromStart (take rated rates) ⌝ }
-    requires { ⌜ (settled ≤ 240) × Timely 0 (take settled settlements) (today .0) ⌝ }
-    ensures { λ r. ⌜ r ≡ standing (recognised .0) (storedOn (take rated rates)) (take settled settlements) (today .0) ⌝ }
+    requires { ⌜ (recognised .0 ≤ 1000000000000) × (today .0 ≤ 6000) × (rated ≤ 16) × (settled ≤ 240) ⌝ }
+    requires { ⌜ Come rated rates 0 0 ⌝ }
+    ensures { λ r. ⌜ r ≡ replayed (recognised .0) rates rated settlements settled (today .0) ⌝ }
 {
     let mut account = Account {
         outstanding: recognised,
@@ -40,22 +38,45 @@ fn replay_all(
     // The order at place `at` holds up to day `from`.
     let mut from = Day(0);
     let mut at: usize = 0;
+    let mut over = false;
     let mut i: usize = 0;
     while i < settled {
         let settlement = settlements[i];
         let day = settlement.day;
         let cents = settlement.cents;
-        let passed = elapse(account, rates, rated, at, from, day);
-        let before = passed.account;
-        if before.due.0 + before.outstanding.0 < cents.0 {
-            return Reckoned::Overpaid;
+        if day.0 <= from.0 {
+            return Reckoned::OutOfRange;
         }
-        account = pay_off(before, cents);
+        if today.0 < day.0 {
+            return Reckoned::OutOfRange;
+        }
+        let passed = elapse(account, rates, rated, at, from, day);
+        let ordered = passed.ordered;
+        if !ordered {
+            return Reckoned::OutOfRange;
+        }
+        account = passed.account;
+        if account.due.0 + account.outstanding.0 < cents.0 {
+            over = true;
+        } else {
+            let before = account;
+            account = pay_off(before, cents);
+        }
         from = day;
         at = passed.at;
         i += 1;
     }
     let passed = elapse(account, rates, rated, at, from, today);
+    let ordered = passed.ordered;
+    if !ordered {
+        return Reckoned::OutOfRange;
+    }
+    if !are_rising(rates, rated, passed.at) {
+        return Reckoned::OutOfRange;
+    }
+    if over {
+        return Reckoned::Overpaid;
+    }
     let last = passed.account;
     Reckoned::Standing(last)
 }
@@ -82,10 +103,11 @@ pub fn replay(
     if Account::SETTLEMENTS < settled {
         return Reckoned::OutOfRange;
     }
-    if !is_schedule(rates, rated) {
+    if rated == 0 {
         return Reckoned::OutOfRange;
     }
-    if !is_timely(settlements, settled, today) {
+    let order = rates[0];
+    if !is_first(order) {
         return Reckoned::OutOfRange;
     }
     replay_all(recognised, rates, rated, settlements, settled, today)

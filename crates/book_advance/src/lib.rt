@@ -1,7 +1,7 @@
 // Advance (document 01): days pass, positions gain unit-days and interest accrues.
 ghost use mathlib.Core.Path.{_≡_};
 ghost use Rattle.account.specs.Accrual.{accruedDays};
-ghost use Rattle.account.specs.Computation.{Fits};
+ghost use Rattle.account.specs.Invariant.{Fits};
 ghost use mathlib.Core.Bool.{true};
 ghost use mathlib.Core.List.{map, _++_};
 ghost use Prim.Native.Nat.{_≤_, _<_};

@@ -13,7 +13,7 @@ use Rattle.book_model.specs.Book.{held, ratesOf, withHeld, withAccount, 
 use Rattle.book_model.specs.Positions.{dayHeld}
 use Rattle.book_model.specs.Schedule.{dailyOn}
 use Rattle.book_model.specs.Computation.{daysHeld}
-use Rattle.account.specs.Computation.{elapsed}
+use Rattle.account.specs.Walk.{elapsed}
 use Rattle.book_model.proofs.ChangedBook.{Roomy, held-withHeld, withHeld-held, withHeld-twice}
 
 -- Positions

@@ -14,7 +14,8 @@ use Rattle.account.specs.declared.Account.{Account}
 use Rattle.account.specs.declared.RateOrder.{RateOrder}
 use Rattle.account.specs.Accrual.{accruedDays}
 use Rattle.account.specs.Opening.{noOrder}
-use Rattle.account.specs.Computation.{elapsed, Moderate, Rising as Following, FromStart as Scheduled}
+use Rattle.account.specs.Invariant.{Moderate, Rising as Following, FromStart as Scheduled}
+use Rattle.account.specs.Walk.{elapsed}
 use Rattle.account.specs.Schedule.{inForce, storedOn}
 use Rattle.book_model.specs.Schedule.{dailyOn}
 use Rattle.account.proofs.Bounds as bounds

@@ -13,7 +13,7 @@ use Rattle.account.specs.declared.Settlement.{Settlement}
 use Rattle.account.specs.Accrual.{paidOff, worth}
 use Rattle.book_model.specs.Advance.{advanced}
 use Rattle.book_model.specs.Book.{emptyBook, ratesOf, settlementsOf}
-use Rattle.account.specs.Computation.{elapsed}
+use Rattle.account.specs.Walk.{elapsed}
 use Rattle.book_model.specs.Open.{newBook, opened}
 use Rattle.book_model.specs.Rate.{rated}
 use Rattle.book_model.specs.Reached.{Reached, empty, opens, advances, rates, transfers, settles}

@@ -20,7 +20,7 @@ use Rattle.book_model.specs.Schedule.{dailyOn}
 use Rattle.book_model.specs.Settle.{settledToday, settledBook}
 use Rattle.book_model.specs.Sound.{Sound}
 use Rattle.book_model.specs.Computation.{daysHeld}
-use Rattle.account.specs.Computation.{elapsed}
+use Rattle.account.specs.Walk.{elapsed}
 use Rattle.book_model.proofs.Accepted.{AdvanceRight, SettleRight, daysTo, ratesAfter, accountAfter, revisedBook}
 use Rattle.book_model.proofs.Assigned.{assigned}
 use Rattle.book_model.proofs.ChangedBook.{Roomy, held-withHeld}

@@ -12,7 +12,7 @@ use Rattle.book_model.specs.Book.{emptyBook, held, ratesOf, settlementsO
 use Rattle.book_model.specs.Open.{all, distinct}
 use Rattle.book_model.specs.Positions.{isHolder, holders, shares, unitDays, receipts, total}
 use Rattle.book_model.specs.Computation.{Priced, FromStart}
-use Rattle.account.specs.Computation.{Bounded, Timely}
+use Rattle.account.specs.Invariant.{Bounded, Timely}
 
 -- the cents of the settlements
 abbrev pub settledCents : List Settlement → List ℕ

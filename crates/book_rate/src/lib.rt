@@ -5,7 +5,7 @@ ghost use Prim.Native.Nat.{_≤_, _<_};
 ghost use lib.ListN.{length, take};
 ghost use Rattle.book_model.specs.Book.{ratesOf};
 ghost use Rattle.rates.specs.Rate.{dailyOf};
-ghost use Rattle.account.specs.Computation.{Fits};
+ghost use Rattle.account.specs.Invariant.{Fits};
 ghost use Rattle.book_model.specs.Outcome.{answered, refuse, noChanges, rateCase, rateStated};
 ghost use Rattle.book_model.specs.Rate.{startingBefore, changesOf, revised, ratedFrom, rated};
 ghost use Rattle.book_model.specs.Reached.{Reached};

@@ -1,7 +1,7 @@
 // Settle (document 01): a payment to the account, split among the positions by their unit-days.
 ghost use mathlib.Core.Path.{_≡_};
 ghost use Rattle.account.specs.Accrual.{paidOff, worth};
-ghost use Rattle.account.specs.Computation.{Fits};
+ghost use Rattle.account.specs.Invariant.{Fits};
 ghost use mathlib.Core.List.{_++_};
 ghost use Prim.Native.Nat.{ℕ, _≤_, _<_, min};
 ghost use lib.ListN.{length, take, drop, getD};

@@ -19,7 +19,7 @@ use Rattle.book_model.specs.Schedule.{dailyOn}
 use Rattle.book_model.specs.Sound.{Sound, OpenSound}
 use Rattle.book_model.specs.Computation.{daysHeld, withStored}
 use Rattle.account.specs.Opening.{noOrder}
-use Rattle.account.specs.Computation.{elapsed}
+use Rattle.account.specs.Walk.{elapsed}
 use Rattle.book_model.proofs.Accepted.{AdvanceRight, daysTo, advance-cases, no-refusal-is-0}
 use Rattle.book_model.proofs.ChangedBook.{Roomy, length-held}
 use Rattle.book_model.proofs.DaysPassed.{days-at-once}

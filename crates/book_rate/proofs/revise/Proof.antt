@@ -16,7 +16,7 @@ use Rattle.account.specs.declared.Reckoned.the-variants.{Standing, Overpaid, Ou
 use Rattle.book_model.specs.Book.{ratesOf, settlementsOf}
 use Rattle.rates.specs.Rate.{dailyOf}
 use Rattle.book_model.specs.Computation.{Priced}
-use Rattle.account.specs.Computation.{Fits}
+use Rattle.account.specs.Invariant.{Fits}
 use Rattle.account.specs.Reckoning.{standing, replayed}
 use Rattle.book_model.specs.Outcome.{Answer, Outcome, Changes, answered, refuse, noChanges}
 use Rattle.book_model.specs.Rate.{startingBefore, withRates, changesOf, revised}

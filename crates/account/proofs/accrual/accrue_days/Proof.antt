@@ -4,7 +4,7 @@ use native.Mathlib.Omega.{arith}
 use native.Mathlib.Nat.{mul-le-mul}
 use borrow.Author.Needs.{needs}
 use Rattle.account.specs.declared.Account.{Account}
-use Rattle.account.specs.Computation.{Fits}
+use Rattle.account.specs.Invariant.{Fits}
 use Rattle.account.proofs.Bounds.{product-bound}
 use Rattle.account.proofs.ClosedForm.{closed-form}
 use Rattle.account.proofs.accrual.accrue_days.Statement.{statement}

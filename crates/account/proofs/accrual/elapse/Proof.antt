@@ -1,145 +1,177 @@
--- `elapse` meets its contract. The loop's invariant: the account is that of the days up to `day`, each at its own rate, and the order at `at`
--- holds up to it.
+-- The loop's invariant: the walk has come to `day` and the order at `at`; within a schedule the account is that of the days up to it.
 use Prim.Native.Nat.{ℕ, _+_, _-_, _≤_, _<_}
 use native.Mathlib.Omega.{arith}
 use mathlib.Core.Logic.{⊎-elim}
-use mathlib.Core.Path.{_≡_, sym, subst, _∙_}
-use mathlib.Core.List.{List}
+use mathlib.Core.Path.{_≡_, refl, sym, _∙_}
+use mathlib.Core.Bool.{true, false}
 use borrow.Author.Needs.{needs}
-use borrow.Author.Tests.{ltb-true, ltb-false}
+use borrow.Author.Tests.{ltb-true, ltb-false, not-true, not-false}
 use lib.ListN.{length, take, getD}
-use Rattle.account.specs.declared.Account.{Account}
-use Rattle.account.specs.declared.RateOrder.{RateOrder}
+use Rattle.account.specs.Invariant.{Bounded}
 use Rattle.account.specs.Opening.{noOrder}
+use Rattle.account.specs.Ranges.{isNext, isSchedule}
 use Rattle.account.specs.Schedule.{storedOn}
-use Rattle.account.specs.Computation.{elapsed, Fits, Bounded, Moderate, Holding}
-use Rattle.account.proofs.Bounds.{fits, bounded-between}
-use Rattle.account.proofs.Segments.{elapsed-none, next-holds, moderate-at, segment}
+use Rattle.account.specs.Walk.{elapsed, Come}
+use Rattle.account.proofs.Bounds.{fits}
+use Rattle.account.proofs.Cases.{true-not-false}
+use Rattle.account.proofs.Segments.{elapsed-none}
+use Rattle.account.proofs.Walks.{no-next, come-next, gone}
 use Rattle.account.proofs.accrual.elapse.Statement.{statement}
 use Rattle.account.proofs.accrual.elapse.Tie as tie
 
 abbrev Inv-loop : tie.InvT-loop
 Inv-loop rated place end rates next₀ at₀ day₀ next at day =
-    (day₀ .0 ≤ day .0) × (day .0 ≤ end .0) × Holding rated rates at (day .0)
-    × (next ≡ elapsed (storedOn (take rated rates)) (day₀ .0) (day .0 - day₀ .0) next₀)
+    (day₀ .0 ≤ day .0) × (day .0 ≤ end .0) × Come rated rates at (day .0) × Bounded (day .0) next
+    × (isSchedule (take rated rates) ≡ true → next ≡ elapsed (storedOn (take rated rates)) (day₀ .0) (day .0 - day₀ .0) next₀)
 
 abbrev μ-loop : tie.MeasureT-loop
 μ-loop rated place end rates next₀ at₀ day₀ next at day = rated - at
 
 -- the array has 16 elements, of which so many are orders
 room : (s : tie.Start Inv-loop μ-loop) → s .args .rated ≤ length (s .args .t2)
-room s = let n : length (s .args .t2) ≡ 16 = search needs in omega (arith, s .pre .1 .1 .0 .0)
+room s = let n : length (s .args .t2) ≡ 16 = search needs in omega (arith, s .pre .1 .0 .2)
 
--- the account of a day up to the end
-bounded : (n : ℕ) (rs : List RateOrder) (from day : ℕ) (a now : Account) → Moderate (take n rs) → from ≤ day → day ≤ 6000 → Bounded from a
-    → now ≡ elapsed (storedOn (take n rs)) from (day - from) a → Fits now
-bounded n rs from day a now p le most h e =
-    fits day now most (subst (Bounded day) (sym e) (bounded-between (take n rs) from day a p le h))
+-- The way back to the loop's head, from each place by the one before it
+abbrev by-known : tie.After-struct-known Inv-loop μ-loop → tie.At-loop Inv-loop μ-loop
+by-known c = c .before .before
+
+abbrev by-order : tie.After-order Inv-loop μ-loop → tie.At-loop Inv-loop μ-loop
+by-order c = by-known (c .before .before)
+
+abbrev by-next : tie.After-is-next Inv-loop μ-loop → tie.After-order Inv-loop μ-loop
+by-next c = c .before .before
+
+abbrev by-change : tie.After-change Inv-loop μ-loop → tie.After-is-next Inv-loop μ-loop
+by-change c = c .before .before
+
+abbrev by-days : tie.After-struct-known3 Inv-loop μ-loop → tie.After-change Inv-loop μ-loop
+by-days c = c .before .before
+
+abbrev by-last : tie.After-struct-known5 Inv-loop μ-loop → tie.After-order2 Inv-loop μ-loop
+by-last c = c .before .before
+
+-- the next order is one of the array, and begins before the end
+within : (c : tie.After-order Inv-loop μ-loop) → by-order c .loop .at + 1 < by-order c .before .args .rated
+within c = c .before .before .before .loop-test .taken
+
+early : (c : tie.After-order Inv-loop μ-loop)
+    → getD (by-order c .before .args .t2) (by-order c .loop .at + 1) noOrder .first .0 < by-order c .before .args .end .0
+early c = ltb-true _ _ (c .before .if1 .taken)
+
+-- it is right, so it begins no earlier than the day at hand
+right : (c : tie.After-change Inv-loop μ-loop)
+    → isNext (getD (by-order (by-next (by-change c)) .before .args .t2) (by-order (by-next (by-change c)) .loop .at) noOrder .first .0)
+    (getD (by-order (by-next (by-change c)) .before .args .t2) (by-order (by-next (by-change c)) .loop .at + 1) noOrder) ≡ true
+right c = sym (c .before .before .is-next .ensures) ∙ not-false (c .before .before .is-next .result) (c .before .if2 .left)
+
+no-earlier : (c : tie.After-change Inv-loop μ-loop)
+    → by-order (by-next (by-change c)) .loop .day .0
+    ≤ getD (by-order (by-next (by-change c)) .before .args .t2) (by-order (by-next (by-change c)) .loop .at + 1) noOrder .first .0
+no-earlier c = by-order (by-next (by-change c)) .loop .inv .2 .next (within (by-next (by-change c))) (right c)
 
 loop-holds : tie.Need-loop-holds Inv-loop μ-loop
-loop-holds c = (omega arith, omega arith, c .pre .1 .1 .1, elapsed-none _ _ _)
+loop-holds c = (omega arith, omega (arith, c .pre .1 .0 .0), c .pre .1 .1, c .pre .0, λ _. elapsed-none _ _ _)
 
 add-loop : tie.Need-add-loop Inv-loop μ-loop
-add-loop c = omega (arith, c .loop .inv .2 .0, c .before .pre .1 .1 .0 .0)
+add-loop c = omega (arith, c .loop .inv .2 .within, c .before .pre .1 .0 .2)
 
 add-if1 : tie.Need-add-if1 Inv-loop μ-loop
-add-if1 c = omega (arith, c .before .loop .inv .2 .0, c .before .before .pre .1 .1 .0 .0)
+add-if1 c = omega (arith, c .before .loop .inv .2 .within, c .before .before .pre .1 .0 .2)
 
 mul-if1 : tie.Need-mul-if1 Inv-loop μ-loop
-mul-if1 c = omega (arith, c .before .before .pre .1 .1 .0 .0)
+mul-if1 c = omega (arith, c .before .before .pre .1 .0 .2)
 
 element-copy-out-if1 : tie.Need-element-copy-out-if1 Inv-loop μ-loop
 element-copy-out-if1 c = omega (arith, room (c .before .before))
 
 mul-order : tie.Need-mul-order Inv-loop μ-loop
-mul-order c = let s = c .before .before .before .before in omega (arith, c .before .before .before .loop .inv .2 .0, s .pre .1 .1 .0 .0)
+mul-order c = let l = by-known (c .before) in omega (arith, l .loop .inv .2 .within, l .before .pre .1 .0 .2)
 
 array-copy-out-order : tie.Need-array-copy-out-order Inv-loop μ-loop
-array-copy-out-order c = let s = c .before .before .before .before in omega (arith, c .before .before .before .loop .inv .2 .0, room s)
+array-copy-out-order c = let l = by-known (c .before) in omega (arith, l .loop .inv .2 .within, room (l .before))
 
 add-later : tie.Need-add-later Inv-loop μ-loop
-add-later c = let s = c .before .before .before .before .before in omega (arith, c .before .before .before .before .loop .inv .2 .0, s .pre .1 .1 .0 .0)
+add-later c = let l = by-order c in omega (arith, l .loop .inv .2 .within, l .before .pre .1 .0 .2)
 
 mul-later : tie.Need-mul-later Inv-loop μ-loop
-mul-later c = let s = c .before .before .before .before .before in omega (arith, s .pre .1 .1 .0 .0)
+mul-later c = let l = by-order c in omega (arith, within c, l .before .pre .1 .0 .2)
 
 array-copy-out-later : tie.Need-array-copy-out-later Inv-loop μ-loop
-array-copy-out-later c = let s = c .before .before .before .before .before in omega (arith, room s)
+array-copy-out-later c = omega (arith, within c, room (by-order c .before))
 
-sub-days : tie.Need-sub-days Inv-loop μ-loop
-sub-days c =
-    let g = c .before .before .before .before .before .before .before .before in
-    omega (arith, g .loop .inv .2 .2 (omega arith))
-
-accrue-days-requires : tie.Need-accrue-days-requires Inv-loop μ-loop
-accrue-days-requires c κs =
-    let g = c .before .before .before .before .before .before .before .before in
-    let s = g .before in
-    let l = g .loop in
-    let p = s .pre .1 .1 .0 .1 in
-    let early : getD (s .args .t2) (l .at + 1) noOrder .first .0 < s .args .end .0 =
-    ltb-true _ _ (c .before .before .before .before .before .if1 .taken) in (
-      bounded (s .args .rated) (s .args .t2) (s .args .from .0) (l .day .0) (s .args .account) (l .next) p (l .inv .0) (omega (arith, l .inv .1, s .pre .1 .0 .1))
-          (s .pre .0) (l .inv .3),
-      (moderate-at (s .args .rated) (s .args .t2) (l .at) p (room s) (l .inv .2 .0), omega (arith, early, s .pre .1 .0 .1)),
-    )
-
-add-at : tie.Need-add-at Inv-loop μ-loop
-add-at c =
-    let g = c .before .before .before .before .before .before .before .before .before in
-    omega (arith, g .loop .inv .2 .0, g .before .pre .1 .1 .0 .0)
-
-loop-less : tie.Need-loop-less Inv-loop μ-loop
-loop-less c = let g = c .before .before .before .before .before .before .before .before .before in omega (arith, g .loop .inv .2 .0)
-
-loop-again : tie.Need-loop-again Inv-loop μ-loop
-loop-again c =
-    let g = c .before .before .before .before .before .before .before .before .before in
-    let s = g .before in
-    let l = g .loop in
-    let within : l .at + 1 < s .args .rated = c .before .before .before .before .before .before .before .before .loop-test .taken in
-    let early : getD (s .args .t2) (l .at + 1) noOrder .first .0 < s .args .end .0 =
-    ltb-true _ _ (c .before .before .before .before .before .before .if1 .taken) in
-    let later = l .inv .2 .2 within in (
-      omega (arith, later, l .inv .0),
-      omega (arith, early),
-      next-holds (s .args .rated) (s .args .t2) (l .at) (s .pre .1 .1 .0 .2) (room s) within,
-      c .«accrue-days» .ensures
-          ∙ segment (s .args .rated) (s .args .t2) (l .at) (s .args .from .0) (l .day .0) _ (s .args .account) (l .next)
-          (s .pre .1 .1 .0 .2) (room s) (l .inv .2) (λ _. omega arith) (l .inv .0) later (l .inv .3),
-    )
-
-mul-order-2 : tie.Need-mul-order-2 Inv-loop μ-loop
-mul-order-2 c = omega (arith, c .before .loop .inv .2 .0, c .before .before .pre .1 .1 .0 .0)
-
-array-copy-out-order-2 : tie.Need-array-copy-out-order-2 Inv-loop μ-loop
-array-copy-out-order-2 c = omega (arith, c .before .loop .inv .2 .0, room (c .before .before))
-
-sub-days-2 : tie.Need-sub-days-2 Inv-loop μ-loop
-sub-days-2 c = omega (arith, c .before .before .before .before .loop .inv .1)
-
-accrue-days-requires-2 : tie.Need-accrue-days-requires-2 Inv-loop μ-loop
-accrue-days-requires-2 c κs =
-    let g = c .before .before .before .before in
-    let s = g .before in
-    let l = g .loop in
-    let p = s .pre .1 .1 .0 .1 in (
-      bounded (s .args .rated) (s .args .t2) (s .args .from .0) (l .day .0) (s .args .account) (l .next) p (l .inv .0) (omega (arith, l .inv .1, s .pre .1 .0 .1))
-          (s .pre .0) (l .inv .3),
-      (moderate-at (s .args .rated) (s .args .t2) (l .at) p (room s) (l .inv .2 .0), omega (arith, s .pre .1 .0 .1)),
-    )
+is-next-requires : tie.Need-is-next-requires Inv-loop μ-loop
+is-next-requires c κs = tt
 
 returns : tie.Need-returns Inv-loop μ-loop
 returns c =
-    let g = c .before .before .before .before .before in
-    let s = g .before in
-    let l = g .loop in
-    let until : l .at + 1 < s .args .rated → s .args .end .0 ≤ getD (s .args .t2) (l .at + 1) noOrder .first .0 =
-    λ lt. ⊎-elim (λ w. ltb-false _ _ (w .2 .left)) (λ w. absurd (omega (arith, w .left))) (c .before .before .before .before .loop-test .came) in (
-      c .«accrue-days2» .ensures
-          ∙ segment (s .args .rated) (s .args .t2) (l .at) (s .args .from .0) (l .day .0) (s .args .end .0) (s .args .account) (l .next)
-          (s .pre .1 .1 .0 .2) (room s) (l .inv .2) until (l .inv .0) (l .inv .1) (l .inv .3),
-      (l .inv .2 .0, omega (arith, l .inv .1, l .inv .2 .1), until),
+    let k = c .before in
+    let l = by-order (by-next k) in
+    let wrong = sym (k .is-next .ensures) ∙ not-true (k .is-next .result) (c .if2 .taken) in (
+      λ e. true-not-false false e refl,
+      λ _. no-next (l .before .args .rated) (l .before .args .t2) (room (l .before)) (l .loop .at) (l .loop .day .0) (l .loop .inv .2) (within (by-next k)) wrong,
+    )
+
+sub-days : tie.Need-sub-days Inv-loop μ-loop
+sub-days c = omega (arith, no-earlier (by-days c))
+
+accrue-days-requires : tie.Need-accrue-days-requires Inv-loop μ-loop
+accrue-days-requires c κs =
+    let k = by-next (by-change (by-days c)) in
+    let l = by-order k in (
+      fits (l .loop .day .0) (l .loop .next) (omega (arith, l .loop .inv .1, l .before .pre .1 .0 .1)) (l .loop .inv .3),
+      (l .loop .inv .2 .low, omega (arith, early k, l .before .pre .1 .0 .1)),
+    )
+
+add-at : tie.Need-add-at Inv-loop μ-loop
+add-at c = let l = by-order (by-next (by-change (by-days (c .before)))) in omega (arith, l .loop .inv .2 .within, l .before .pre .1 .0 .2)
+
+loop-less : tie.Need-loop-less Inv-loop μ-loop
+loop-less c = let l = by-order (by-next (by-change (by-days (c .before)))) in omega (arith, l .loop .inv .2 .within)
+
+loop-again : tie.Need-loop-again Inv-loop μ-loop
+loop-again c =
+    let k = by-days (c .before) in
+    let o = by-next (by-change k) in
+    let l = by-order o in
+    let s = l .before in
+    let more =
+    gone (s .args .rated) (s .args .t2) (room s) (l .loop .at) (l .loop .day .0) (l .loop .inv .2) (s .args .account) (l .loop .next)
+    (c .«accrue-days» .result) (s .args .from .0) _ (l .loop .inv .0) (no-earlier k) (λ _. omega arith) (l .loop .inv .3) (l .loop .inv .4)
+    (c .«accrue-days» .ensures) in (
+      omega (arith, no-earlier k, l .loop .inv .0),
+      omega (arith, early o),
+      come-next (s .args .rated) (s .args .t2) (room s) (l .loop .at) (l .loop .day .0) (l .loop .inv .2) (within o) (right k),
+      more .bounded,
+      more .is-elapsed,
+    )
+
+mul-order-2 : tie.Need-mul-order-2 Inv-loop μ-loop
+mul-order-2 c = omega (arith, c .before .loop .inv .2 .within, c .before .before .pre .1 .0 .2)
+
+array-copy-out-order-2 : tie.Need-array-copy-out-order-2 Inv-loop μ-loop
+array-copy-out-order-2 c = omega (arith, c .before .loop .inv .2 .within, room (c .before .before))
+
+sub-days-2 : tie.Need-sub-days-2 Inv-loop μ-loop
+sub-days-2 c = omega (arith, by-last c .before .before .loop .inv .1)
+
+accrue-days-requires-2 : tie.Need-accrue-days-requires-2 Inv-loop μ-loop
+accrue-days-requires-2 c κs =
+    let l = by-last c .before .before in (
+      fits (l .loop .day .0) (l .loop .next) (omega (arith, l .loop .inv .1, l .before .pre .1 .0 .1)) (l .loop .inv .3),
+      (l .loop .inv .2 .low, omega (arith, l .before .pre .1 .0 .1)),
+    )
+
+returns-2 : tie.Need-returns-2 Inv-loop μ-loop
+returns-2 c =
+    let o = by-last (c .before) in
+    let l = o .before .before in
+    let s = l .before in
+    let until : l .loop .at + 1 < s .args .rated → s .args .end .0 ≤ getD (s .args .t2) (l .loop .at + 1) noOrder .first .0 =
+    λ lt. ⊎-elim (λ w. ltb-false _ _ (w .2 .left)) (λ w. absurd (omega (arith, w .left))) (o .before .loop-test .came) in (
+      λ _. gone (s .args .rated) (s .args .t2) (room s) (l .loop .at) (l .loop .day .0) (l .loop .inv .2) (s .args .account) (l .loop .next)
+          (c .«accrue-days2» .result) (s .args .from .0) (s .args .end .0) (l .loop .inv .0) (l .loop .inv .1) until (l .loop .inv .3) (l .loop .inv .4)
+          (c .«accrue-days2» .ensures),
+      λ e. true-not-false true refl e,
     )
 
 pub elapse-spec : {M : Type 1} → statement M
@@ -158,6 +190,8 @@ elapse-spec =
     add-later
     mul-later
     array-copy-out-later
+    is-next-requires
+    returns
     sub-days
     accrue-days-requires
     add-at
@@ -167,4 +201,4 @@ elapse-spec =
     array-copy-out-order-2
     sub-days-2
     accrue-days-requires-2
-    returns)
+    returns-2)

@@ -1,21 +1,28 @@
 -- Each answer by the tests that led to it.
+use Prim.Native.Nat.{_≤_}
 use native.Mathlib.Omega.{arith}
 use mathlib.Core.Path.{_≡_, sym, _∙_}
-use mathlib.Core.Bool.{true}
+use borrow.Author.Needs.{needs}
 use borrow.Author.Tests.{not-true, not-false}
-use lib.ListN.{take}
-use Rattle.account.specs.Ranges.{isSchedule, isTimely}
-use Rattle.account.proofs.RangeTests.{schedule-says, timely-says}
-use Rattle.account.proofs.Reckonings.{much-recognised, late-today, many-rates, many-settlements, no-schedule, untimely, replays}
+use lib.ListN.{length}
+use Rattle.account.proofs.RangeTests.{no-orders, begins-wrong, begins-right}
+use Rattle.account.proofs.Reckonings.{much-recognised, late-today, many-rates, many-settlements, no-schedule}
 use Rattle.account.proofs.replaying.replay.Statement.{statement}
 use Rattle.account.proofs.replaying.replay.Tie as tie
 
-schedule : (c : tie.Else5) → isSchedule (take (c .before .before .before .before .before .before .before .before .args .rated) (c .before .before .before .before .before .before .before .before .args .rates)) ≡ true
-schedule c = sym (c .before .is-schedule .ensures) ∙ not-false (c .before .is-schedule .result) (c .if5 .left)
+-- The way back to the start, from each place by the one before it
+abbrev by-today : tie.After-struct-known2 → tie.Start
+by-today c = c .before .before .before
 
-timely : (c : tie.Else6)
-    → isTimely 0 (take (c .before .before .before .before .before .before .before .before .before .before .args .settled) (c .before .before .before .before .before .before .before .before .before .before .args .settlements)) (c .before .before .before .before .before .before .before .before .before .before .args .today .0) ≡ true
-timely c = sym (c .before .is-timely .ensures) ∙ not-false (c .before .is-timely .result) (c .if6 .left)
+abbrev by-counts : tie.Else4 → tie.Start
+by-counts c = by-today (c .before .before .before)
+
+abbrev by-first : tie.After-is-first → tie.Else4
+by-first c = c .before .before .before
+
+-- the array has 16 elements, of which so many are orders
+room : (c : tie.Else4) → by-counts c .args .rated ≤ length (by-counts c .args .t2)
+room c = let n : length (by-counts c .args .t2) ≡ 16 = search needs in omega (arith, c .before .if3 .left)
 
 returns : tie.Need-returns
 returns c = much-recognised _ _ _ _ _ _ (omega arith)
@@ -29,31 +36,37 @@ returns-3 c = many-rates _ _ _ _ _ _ (omega arith) (omega arith) (omega arith)
 returns-4 : tie.Need-returns-4
 returns-4 c = many-settlements _ _ _ _ _ _ (omega arith) (omega arith) (omega arith) (omega arith)
 
-is-schedule-requires : tie.Need-is-schedule-requires
-is-schedule-requires c κs = omega arith
-
 returns-5 : tie.Need-returns-5
 returns-5 c =
+    let s = by-counts (c .before) in
     no-schedule _ _ _ _ _ _ (omega arith) (omega arith) (omega arith) (omega arith)
-    (sym (c .before .is-schedule .ensures) ∙ not-true (c .before .is-schedule .result) (c .if5 .taken))
+    (no-orders (s .args .t2) (s .args .rated) (room (c .before)) (omega arith))
 
-is-timely-requires : tie.Need-is-timely-requires
-is-timely-requires c κs = omega arith
+array-copy-out-order : tie.Need-array-copy-out-order
+array-copy-out-order c = search needs
+
+is-first-requires : tie.Need-is-first-requires
+is-first-requires c κs = tt
 
 returns-6 : tie.Need-returns-6
 returns-6 c =
-    untimely _ _ _ _ _ _ (omega arith) (omega arith) (omega arith) (omega arith) (schedule (c .before .before))
-    (sym (c .before .is-timely .ensures) ∙ not-true (c .before .is-timely .result) (c .if6 .taken))
+    let k = c .before in
+    let s = by-counts (by-first k) in
+    no-schedule _ _ _ _ _ _ (omega arith) (omega arith) (omega arith) (omega arith)
+    (begins-wrong (s .args .t2) (s .args .rated) (room (by-first k)) (omega arith)
+    (sym (k .is-first .ensures) ∙ not-true (k .is-first .result) (c .if6 .taken)))
 
 replay-all-requires : tie.Need-replay-all-requires
 replay-all-requires c κs =
-    let orders = schedule-says _ (schedule (c .before .before)) in
-    ((omega arith, omega arith), ((omega arith, orders .0, orders .1), (omega arith, timely-says _ _ _ (timely c))))
+    let k = c .before in
+    let s = by-counts (by-first k) in (
+      (omega arith, omega arith, omega arith, omega arith),
+      begins-right (s .args .t2) (s .args .rated) (room (by-first k)) (omega arith)
+          (sym (k .is-first .ensures) ∙ not-false (k .is-first .result) (c .if6 .left)),
+    )
 
 returns-7 : tie.Need-returns-7
-returns-7 c =
-    c .replay-all .ensures
-    ∙ replays _ _ _ _ _ _ (omega arith) (omega arith) (omega arith) (omega arith) (schedule (c .before .before .before)) (timely (c .before))
+returns-7 c = c .replay-all .ensures
 
 pub replay-spec : {M : Type 1} → statement M
 replay-spec =
@@ -63,9 +76,9 @@ replay-spec =
     returns-2
     returns-3
     returns-4
-    is-schedule-requires
     returns-5
-    is-timely-requires
+    array-copy-out-order
+    is-first-requires
     returns-6
     replay-all-requires
     returns-7)

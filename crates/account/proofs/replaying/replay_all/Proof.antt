@@ -1,150 +1,242 @@
--- `replay_all` meets its contract. The loop's invariant: what is left to replay, from the account and the day at hand, is what was asked at the
--- start.
-use Prim.Native.Nat.{_+_, _-_, _≤_, _<_}
+-- The loop's invariant: what is left to test and to replay, from the account and the day at hand, is what was asked at the start.
+use Prim.Native.Nat.{ℕ, _+_, _-_, _≤_, _<_}
 use native.Mathlib.Omega.{arith}
-use mathlib.Core.Path.{_≡_, refl, _∙_}
+use mathlib.Core.Logic.{⊎-elim}
+use mathlib.Core.Path.{_≡_, refl, sym, subst, _∙_}
+use mathlib.Core.Bool.{Bool, true, false, cond}
+use mathlib.Core.List.{List}
 use borrow.Author.Needs.{needs}
+use borrow.Author.Tests.{not-true, not-false}
 use lib.ListN.{length, take, drop, getD}
+use Rattle.account.specs.declared.Reckoned.{Reckoned}
+use Rattle.account.specs.declared.Reckoned.the-variants.{Standing, Overpaid, OutOfRange}
+use Rattle.account.specs.Invariant.{Fits, Bounded}
 use Rattle.account.specs.Opening.{opening, noSettlement}
-use Rattle.account.specs.Computation.{Fits, Bounded, Timely, Holding}
-use Rattle.account.specs.Reckoning.{standing}
+use Rattle.account.specs.Ranges.{isSchedule, isTimely}
+use Rattle.account.specs.Reckoning.{standing, replayed}
 use Rattle.account.specs.Schedule.{storedOn}
-use Rattle.account.proofs.Bounds.{bounded-opening, fits, bounded-between, bounded-paid}
-use Rattle.account.proofs.Segments.{first-holds}
-use Rattle.account.proofs.Replays.{replayFrom, timely-most, replay-whole, timely-turn, replay-over, replay-turn, replay-end}
+use Rattle.account.specs.Walk.{Come, Gone}
+use Rattle.account.proofs.Bounds.{bounded-opening, fits, bounded-paid}
+use Rattle.account.proofs.RangeTests.{timely-says, all-timely, not-later, timely-turn, after-today}
+use Rattle.account.proofs.Reckonings.{no-schedule, untimely, replays}
+use Rattle.account.proofs.Replays.{replayFrom, replay-whole, replay-over, replay-turn, replay-end, is-over, not-over}
 use Rattle.account.proofs.replaying.replay_all.Statement.{statement}
 use Rattle.account.proofs.replaying.replay_all.Tie as tie
 
 abbrev Inv-loop : tie.InvT-loop
-Inv-loop rates rated settled today settlements account₀ from₀ at₀ i₀ account from at i =
-    (i ≤ settled) × Bounded (from .0) account × Timely (from .0) (drop i (take settled settlements)) (today .0)
-    × Holding rated rates at (from .0)
-    × (replayFrom (storedOn (take rated rates)) account (from .0) (drop i (take settled settlements)) (today .0)
-    ≡ replayFrom (storedOn (take rated rates)) account₀ 0 (take settled settlements) (today .0))
+Inv-loop rates rated settled today settlements account₀ from₀ at₀ over₀ i₀ account from at over i =
+    (i ≤ settled) × (from .0 ≤ today .0) × Come rated rates at (from .0) × Bounded (from .0) account
+    × (isTimely 0 (take settled settlements) (today .0) ≡ isTimely (from .0) (drop i (take settled settlements)) (today .0))
+    × (isSchedule (take rated rates) ≡ true
+    → replayFrom (storedOn (take rated rates)) account₀ 0 (take settled settlements) (today .0)
+    ≡ cond over Overpaid (replayFrom (storedOn (take rated rates)) account (from .0) (drop i (take settled settlements)) (today .0)))
 
 abbrev μ-loop : tie.MeasureT-loop
-μ-loop rates rated settled today settlements account₀ from₀ at₀ i₀ account from at i = settled - i
+μ-loop rates rated settled today settlements account₀ from₀ at₀ over₀ i₀ account from at over i = settled - i
 
--- the array has 16 elements, of which so many are orders
-rates-room : (c : tie.Start Inv-loop μ-loop) → c .args .rated ≤ length (c .args .rates)
-rates-room c = let n : length (c .args .rates) ≡ 16 = search needs in omega (arith, c .pre .1 .0 .0)
+-- the array has 240 elements, of which so many are settlements
+room : (s : tie.Start Inv-loop μ-loop) → s .args .settled ≤ length (s .args .t4)
+room s = let n : length (s .args .t4) ≡ 240 = search needs in omega (arith, s .pre .0 .3)
+
+-- The way back to a turn's beginning, from each place by the one before it
+abbrev by-cents : tie.After-cents Inv-loop μ-loop → tie.In-loop Inv-loop μ-loop
+by-cents c = c .before .before .before
+
+abbrev by-day : tie.After-struct-known2 Inv-loop μ-loop → tie.In-loop Inv-loop μ-loop
+by-day c = by-cents (c .before .before)
+
+abbrev by-later : tie.After-struct-known4 Inv-loop μ-loop → tie.In-loop Inv-loop μ-loop
+by-later c = by-day (c .before .before .before)
+
+abbrev by-elapse : tie.After-elapse Inv-loop μ-loop → tie.In-loop Inv-loop μ-loop
+by-elapse c = by-later (c .before .before)
+
+abbrev by-account : tie.After-account Inv-loop μ-loop → tie.After-elapse Inv-loop μ-loop
+by-account c = c .before .before
+
+abbrev by-worth : tie.After-struct-known6 Inv-loop μ-loop → tie.After-account Inv-loop μ-loop
+by-worth c = c .before .before
+
+abbrev by-rising : tie.After-are-rising Inv-loop μ-loop → tie.After-elapse2 Inv-loop μ-loop
+by-rising c = c .before .before
+
+-- the day of the settlement at hand
+abbrev dayOf : tie.In-loop Inv-loop μ-loop → ℕ
+dayOf k = getD (k .before .before .args .t4) (k .before .loop .i) noSettlement .day .0
 
 loop-holds : tie.Need-loop-holds Inv-loop μ-loop
 unfolding opening
-loop-holds c =
-    (omega arith, bounded-opening _ (c .pre .0 .0), c .pre .1 .1 .1, first-holds (c .args .rated) (c .args .rates) (c .pre .1 .0 .2) (rates-room c), refl)
-
--- the array has 240 elements, of which so many are settlements
-room : (c : tie.Start Inv-loop μ-loop) → c .args .settled ≤ length (c .args .t4)
-room c = let n : length (c .args .t4) ≡ 240 = search needs in omega (arith, c .pre .1 .1 .0)
-
--- what is asked at the start is what the contract says
-asked : (s : tie.Start Inv-loop μ-loop)
-    → replayFrom (storedOn (take (s .args .rated) (s .args .rates))) (opening (s .args .recognised .0)) 0 (take (s .args .settled) (s .args .t4)) (s .args .today .0)
-    ≡ standing (s .args .recognised .0) (storedOn (take (s .args .rated) (s .args .rates))) (take (s .args .settled) (s .args .t4)) (s .args .today .0)
-asked s =
-    replay-whole (s .args .recognised .0) (storedOn (take (s .args .rated) (s .args .rates))) (take (s .args .settled) (s .args .t4)) (s .args .today .0)
-    (s .pre .1 .1 .1)
-
--- the settlement at hand, its day after the last and the others after it
-turn : (c : tie.In-loop Inv-loop μ-loop)
-    → (c .before .loop .from .0 < getD (c .before .before .args .t4) (c .before .loop .i) noSettlement .day .0)
-    × Timely (getD (c .before .before .args .t4) (c .before .loop .i) noSettlement .day .0)
-    (drop (c .before .loop .i + 1) (take (c .before .before .args .settled) (c .before .before .args .t4))) (c .before .before .args .today .0)
-turn c =
-    let s = c .before .before in
-    let l = c .before .loop in
-    timely-turn (storedOn (take (s .args .rated) (s .args .rates))) (s .args .t4) (s .args .settled) (l .i) (l .from .0) (s .args .today .0) (room s)
-    (c .loop-test .taken) (l .inv .2)
-
-day-most : (c : tie.In-loop Inv-loop μ-loop) → getD (c .before .before .args .t4) (c .before .loop .i) noSettlement .day .0 ≤ 6000
-day-most c =
-    let s = c .before .before in
-    omega (
-      arith,
-      timely-most _ (drop (c .before .loop .i + 1) (take (s .args .settled) (s .args .t4))) (s .args .today .0) (turn c .1),
-      s .pre .0 .1,
-    )
+loop-holds c = (omega arith, omega arith, c .pre .1, bounded-opening _ (c .pre .0 .0), refl, λ _. refl)
 
 mul-settlement : tie.Need-mul-settlement Inv-loop μ-loop
-mul-settlement c = omega arith
+mul-settlement c = omega (arith, c .before .before .pre .0 .3)
 
 array-copy-out-settlement : tie.Need-array-copy-out-settlement Inv-loop μ-loop
-array-copy-out-settlement c = omega arith
+array-copy-out-settlement c = omega (arith, c .before .before .pre .0 .3)
+
+-- numbers that are out of range
+out : (s : tie.Start Inv-loop μ-loop)
+    → (isSchedule (take (s .args .rated) (s .args .rates)) ≡ false → OutOfRange ≡ replayed (s .args .recognised .0) (s .args .rates) (s .args .rated) (s .args .t4) (s .args .settled) (s .args .today .0))
+    × (isTimely 0 (take (s .args .settled) (s .args .t4)) (s .args .today .0) ≡ false → OutOfRange ≡ replayed (s .args .recognised .0) (s .args .rates) (s .args .rated) (s .args .t4) (s .args .settled) (s .args .today .0))
+out s = (
+  no-schedule _ _ _ _ _ _ (s .pre .0 .0) (s .pre .0 .1) (s .pre .0 .2) (s .pre .0 .3),
+  untimely _ _ _ _ _ _ (s .pre .0 .0) (s .pre .0 .1) (s .pre .0 .2) (s .pre .0 .3),
+)
+
+returns : tie.Need-returns Inv-loop μ-loop
+returns c =
+    let k = by-day (c .before) in
+    let l = k .before .loop in
+    let s = k .before .before in
+    out s .1
+    (l .inv .4 ∙ not-later (s .args .t4) (s .args .settled) (room s) (l .from .0) (s .args .today .0) (l .i) (k .loop-test .taken) (omega arith))
+
+returns-2 : tie.Need-returns-2 Inv-loop μ-loop
+returns-2 c =
+    let k = by-later (c .before) in
+    let l = k .before .loop in
+    let s = k .before .before in
+    out s .1
+    (l .inv .4 ∙ after-today (s .args .t4) (s .args .settled) (room s) (l .from .0) (s .args .today .0) (l .i) (k .loop-test .taken) (omega arith))
 
 elapse-requires : tie.Need-elapse-requires Inv-loop μ-loop
 elapse-requires c κs =
-    let g = c .before .before .before in
-    let s = g .before .before in
-    (g .before .loop .inv .1, ((omega (arith, turn g .0), day-most g), (s .pre .1 .0, g .before .loop .inv .3)))
+    let k = by-later (c .before) in
+    let l = k .before .loop in
+    let s = k .before .before in
+    (l .inv .3, ((omega arith, omega (arith, s .pre .0 .1), s .pre .0 .2), l .inv .2))
 
--- the account as the settlement's day begins
-bounded : (c : tie.After-elapse Inv-loop μ-loop)
-    → Bounded (getD (c .before .before .before .before .before .before .args .t4) (c .before .before .before .before .before .loop .i) noSettlement .day .0)
-    (c .elapse .result .account)
-bounded c =
-    let g = c .before .before .before .before in
-    let s = g .before .before in
-    let l = g .before .loop in
-    rw (c .elapse .ensures .0)
-    (bounded-between (take (s .args .rated) (s .args .rates)) (l .from .0) _ (l .account) (s .pre .1 .0 .1) (omega (arith, turn g .0)) (l .inv .1))
+returns-3 : tie.Need-returns-3 Inv-loop μ-loop
+returns-3 c =
+    let s = by-elapse (c .before) .before .before in
+    out s .0 (c .before .elapse .ensures .1 (not-true (c .before .elapse .result .ordered) (c .if3 .taken)))
 
-fits-there : (c : tie.After-elapse Inv-loop μ-loop) → Fits (c .elapse .result .account)
-fits-there c = fits _ (c .elapse .result .account) (day-most (c .before .before .before .before)) (bounded c)
+-- the days up to the settlement, each order of which was right
+passed : (c : tie.After-account Inv-loop μ-loop)
+    → let k = by-elapse (by-account c) in
+    Gone (k .before .before .args .rated) (k .before .before .args .rates) (k .before .loop .account) (k .before .loop .from .0) (dayOf k)
+    (by-account c .elapse .result .account) (by-account c .elapse .result .at)
+passed c = c .before .before .elapse .ensures .0 (not-false (c .before .before .elapse .result .ordered) (c .before .if3 .left))
 
-add-if1 : tie.Need-add-if1 Inv-loop μ-loop
-add-if1 c = let h = fits-there (c .before .before) in omega (arith, h .principal, h .interest)
+fits-there : (c : tie.After-account Inv-loop μ-loop) → Fits (by-account c .elapse .result .account)
+fits-there c =
+    let s = by-elapse (by-account c) .before .before in
+    fits _ (by-account c .elapse .result .account) (omega (arith, by-account c .before .if2 .left, s .pre .0 .1)) (passed c .bounded)
 
-returns : tie.Need-returns Inv-loop μ-loop
+-- the account and whether a settlement was over, behind this settlement
+paying : (c : tie.Joined4 Inv-loop μ-loop)
+    → let e = by-account (by-worth (c .before)) in
+    let k = by-elapse e in
+    let s = k .before .before in
+    Bounded (dayOf k) (c .if4 .account)
+    × (isSchedule (take (s .args .rated) (s .args .rates)) ≡ true
+    → replayFrom (storedOn (take (s .args .rated) (s .args .rates))) (opening (s .args .recognised .0)) 0 (take (s .args .settled) (s .args .t4)) (s .args .today .0)
+    ≡ cond (c .if4 .over) Overpaid
+    (replayFrom (storedOn (take (s .args .rated) (s .args .rates))) (c .if4 .account) (dayOf k) (drop (k .before .loop .i + 1) (take (s .args .settled) (s .args .t4))) (s .args .today .0)))
 unfolding opening
-returns c =
-    let h = c .before .before .before .before in
-    let g = h .before .before .before .before in
-    let s = g .before .before in
-    let l = g .before .loop in
-    replay-over (storedOn (take (s .args .rated) (s .args .rates))) (s .args .t4) (s .args .settled) (l .i) (l .from .0) (s .args .today .0) (room s)
-    (l .account) (h .elapse .result .account) _ (h .elapse .ensures .0) (g .loop-test .taken) (l .inv .4) (omega arith)
-    ∙ asked s
+paying c =
+    let a = by-worth (c .before) in
+    let e = by-account a in
+    let k = by-elapse e in
+    let l = k .before .loop in
+    let s = k .before .before in
+    ⊎-elim
+    (λ w. (
+      subst (Bounded (dayOf k)) (sym (w .1)) (passed a .bounded),
+      λ h. rw (w .2)
+          (replay-over (storedOn (take (s .args .rated) (s .args .rates))) (s .args .t4) (s .args .settled) (l .i) (l .from .0) (s .args .today .0) (room s)
+          (l .account) _ (l .over) (l .inv .5 h) (e .elapse .result .account) (passed a .is-elapsed h) (k .loop-test .taken) (omega (arith, w .0 .taken))),
+    ))
+    (λ w. (
+      subst (Bounded (dayOf k)) (sym (w .2 ∙ w .1 .ensures)) (bounded-paid _ _ (e .elapse .result .account) (omega (arith, w .0 .left)) (passed a .bounded)),
+      λ h. rw (w .3)
+          (replay-turn (storedOn (take (s .args .rated) (s .args .rates))) (s .args .t4) (s .args .settled) (l .i) (l .from .0) (s .args .today .0) (room s)
+          (l .account) _ (l .over) (l .inv .5 h) (e .elapse .result .account) (passed a .is-elapsed h) (k .loop-test .taken) (c .if4 .account)
+          (omega (arith, w .0 .left)) (w .2 ∙ w .1 .ensures)),
+    ))
+    (c .if4 .came)
+
+add-if4 : tie.Need-add-if4 Inv-loop μ-loop
+add-if4 c = let h = fits-there (c .before) in omega (arith, h .principal, h .interest)
 
 pay-off-requires : tie.Need-pay-off-requires Inv-loop μ-loop
-pay-off-requires c κs = (fits-there (c .before .before .before .before), omega arith)
+pay-off-requires c κs = (fits-there (by-worth (c .before)), omega arith)
 
 add-i : tie.Need-add-i Inv-loop μ-loop
-add-i c = omega arith
+add-i c = let k = by-elapse (by-account (by-worth (c .before))) in omega (arith, k .loop-test .taken, k .before .before .pre .0 .3)
 
 loop-less : tie.Need-loop-less Inv-loop μ-loop
-loop-less c = omega arith
+loop-less c = let k = by-elapse (by-account (by-worth (c .before))) in omega (arith, k .loop-test .taken)
 
 loop-again : tie.Need-loop-again Inv-loop μ-loop
+unfolding opening
 loop-again c =
-    let h = c .before .before .before .before .before in
-    let g = h .before .before .before .before in
-    let s = g .before .before in
-    let l = g .before .loop in (
-      omega arith,
-      rw (c .«pay-off» .ensures) (bounded-paid _ _ (h .elapse .result .account) (omega arith) (bounded h)),
-      turn g .1,
-      h .elapse .ensures .1,
-      replay-turn (storedOn (take (s .args .rated) (s .args .rates))) (s .args .t4) (s .args .settled) (l .i) (l .from .0) (s .args .today .0) (room s)
-          (l .account) (h .elapse .result .account) _ (h .elapse .ensures .0) (g .loop-test .taken) (l .inv .4) (c .«pay-off» .result) (omega arith)
-          (c .«pay-off» .ensures),
+    let e = by-account (by-worth (c .before)) in
+    let k = by-elapse e in
+    let l = k .before .loop in
+    let s = k .before .before in (
+      omega (arith, k .loop-test .taken),
+      omega (arith, e .before .if2 .left),
+      passed (by-worth (c .before)) .come,
+      paying c .0,
+      l .inv .4
+          ∙ timely-turn (s .args .t4) (s .args .settled) (room s) (l .from .0) (s .args .today .0) (l .i) (k .loop-test .taken)
+          (omega (arith, e .before .before .before .before .if1 .left)),
+      paying c .1,
     )
 
 elapse-requires-2 : tie.Need-elapse-requires-2 Inv-loop μ-loop
 elapse-requires-2 c κs =
-    let s = c .before .before in
     let l = c .before .loop in
-    let until = timely-most (l .from .0) (drop (l .i) (take (s .args .settled) (s .args .t4))) (s .args .today .0) (l .inv .2) in
-    (l .inv .1, ((until, s .pre .0 .1), (s .pre .1 .0, l .inv .3)))
+    let s = c .before .before in
+    (l .inv .3, ((l .inv .1, s .pre .0 .1, s .pre .0 .2), l .inv .2))
 
-returns-2 : tie.Need-returns-2 Inv-loop μ-loop
+-- the days up to today
+come : (c : tie.Else5 Inv-loop μ-loop)
+    → let l = c .before .before .before in
+    Gone (l .before .args .rated) (l .before .args .rates) (l .loop .account) (l .loop .from .0) (l .before .args .today .0) (c .before .elapse2 .result .account)
+    (c .before .elapse2 .result .at)
+come c = c .before .elapse2 .ensures .0 (not-false (c .before .elapse2 .result .ordered) (c .if5 .left))
+
+-- every test passed, so what is asked is the standing
+told : (c : tie.Else6 Inv-loop μ-loop)
+    → let l = by-rising (c .before) .before .before in
+    let s = l .before in
+    cond (l .loop .over) Overpaid (Standing (by-rising (c .before) .elapse2 .result .account))
+    ≡ replayed (s .args .recognised .0) (s .args .rates) (s .args .rated) (s .args .t4) (s .args .settled) (s .args .today .0)
 unfolding opening
-returns-2 c =
-    let s = c .before .before .before .before in
-    let l = c .before .before .before .loop in
-    replay-end (storedOn (take (s .args .rated) (s .args .rates))) (s .args .t4) (s .args .settled) (l .i) (l .from .0) (s .args .today .0) (room s)
-    (l .account) (c .before .elapse2 .result .account) _ (c .before .elapse2 .ensures .0) (omega arith) (l .inv .0) (l .inv .4)
-    ∙ asked s
+told c =
+    let r = c .before in
+    let g = come (r .before) in
+    let l = by-rising r .before .before in
+    let s = l .before in
+    let schedule = g .come .left ∙ sym (r .are-rising .ensures) ∙ not-false (r .are-rising .result) (c .if6 .left) in
+    let timely = l .loop .inv .4 ∙ all-timely (s .args .t4) (s .args .settled) (room s) (l .loop .from .0) (s .args .today .0) (l .loop .i) (omega (arith, by-rising r .before .loop-test .left)) (l .loop .inv .0) (l .loop .inv .1) in
+    sym
+    (replay-end (storedOn (take (s .args .rated) (s .args .rates))) (s .args .t4) (s .args .settled) (l .loop .i) (l .loop .from .0) (s .args .today .0) (room s)
+    (l .loop .account) _ (l .loop .over) (l .loop .inv .5 schedule) (by-rising r .elapse2 .result .account) (g .is-elapsed schedule)
+    (omega (arith, by-rising r .before .loop-test .left)) (l .loop .inv .0))
+    ∙ replay-whole (s .args .recognised .0) (storedOn (take (s .args .rated) (s .args .rates))) (take (s .args .settled) (s .args .t4)) (s .args .today .0)
+    (timely-says 0 (take (s .args .settled) (s .args .t4)) (s .args .today .0) timely)
+    ∙ replays _ _ _ _ _ _ (s .pre .0 .0) (s .pre .0 .1) (s .pre .0 .2) (s .pre .0 .3) schedule timely
+
+returns-4 : tie.Need-returns-4 Inv-loop μ-loop
+returns-4 c = out (c .before .before .before .before) .0 (c .before .elapse2 .ensures .1 (not-true (c .before .elapse2 .result .ordered) (c .if5 .taken)))
+
+are-rising-requires : tie.Need-are-rising-requires Inv-loop μ-loop
+are-rising-requires c κs = (come c .come .within, c .before .before .before .before .pre .0 .2)
+
+returns-5 : tie.Need-returns-5 Inv-loop μ-loop
+returns-5 c =
+    let r = c .before in
+    out (by-rising r .before .before .before) .0
+    (come (r .before) .come .left ∙ sym (r .are-rising .ensures) ∙ not-true (r .are-rising .result) (c .if6 .taken))
+
+returns-6 : tie.Need-returns-6 Inv-loop μ-loop
+returns-6 c = is-over _ _ (c .if7 .taken) ∙ told (c .before)
+
+returns-7 : tie.Need-returns-7 Inv-loop μ-loop
+returns-7 c = not-over _ _ (c .before .if7 .left) ∙ told (c .before .before)
 
 pub replay-all-spec : {M : Type 1} → statement M
 replay-all-spec =
@@ -155,12 +247,18 @@ replay-all-spec =
     loop-holds
     mul-settlement
     array-copy-out-settlement
-    elapse-requires
-    add-if1
     returns
+    returns-2
+    elapse-requires
+    returns-3
+    add-if4
     pay-off-requires
     add-i
     loop-less
     loop-again
     elapse-requires-2
-    returns-2)
+    returns-4
+    are-rising-requires
+    returns-5
+    returns-6
+    returns-7)

@@ -1,20 +1,11 @@
--- What the parts of the computation give, and the conditions of their invariants. Private contracts cite it; no public one does.
-use Prim.Native.Nat.{ℕ, zero, suc, _+_, _*_, _≤_, _<_}
+-- Figures, orders and settlements within which the arithmetic of an account fits, as facts. Private contracts and the book's invariant cite
+-- them; nobody has to believe them.
+use Prim.Native.Nat.{ℕ, _+_, _*_, _≤_, _<_}
 use mathlib.Core.Path.{_≡_}
 use mathlib.Core.List.{List, [], _∷_}
-use lib.ListN.{getD}
 use Rattle.account.specs.declared.Account.{Account}
 use Rattle.account.specs.declared.RateOrder.{RateOrder}
 use Rattle.account.specs.declared.Settlement.{Settlement}
-use Rattle.account.specs.Accrual.{accruedDay}
-use Rattle.account.specs.Opening.{noOrder}
-
--- Interest
-
--- so many days from a day on, each at its own daily rate, without a settlement
-unfoldable pub elapsed : (ℕ → ℕ) → ℕ → ℕ → Account → Account
-elapsed daily from zero a = a
-elapsed daily from (suc k) a = accruedDay (daily (from + k)) (elapsed daily from k a)
 
 -- figures that the arithmetic of one step fits
 pub record Fits (a : Account) : Type 0 where
@@ -30,8 +21,6 @@ pub record Bounded (n : ℕ) (a : Account) : Type 0 where
   pub below : a .fraction < 10000000000
   pub interest : a .due .0 + a .«interest_paid» .0 ≤ n * 107459701
 
--- Orders and settlements
-
 -- no daily rate is over that of 4 percent
 abbrev pub Moderate : List RateOrder → Type 0
 Moderate [] = Unit {0}
@@ -46,11 +35,6 @@ Rising day (o ∷ os) = (day < o .first .0) × Rising (o .first .0) os
 abbrev pub FromStart : List RateOrder → Type 0
 FromStart [] = ⊥
 FromStart (o ∷ os) = (o .first .0 ≡ 0) × Rising (o .first .0) os
-
--- of n orders the one at a place holds up to a day: it has begun, and the next begins no earlier; it may begin on that day
-abbrev pub Holding : ℕ → List RateOrder → (at day : ℕ) → Type 0
-Holding n orders at day =
-    (at < n) × (getD orders at noOrder .first .0 ≤ day) × (at + 1 < n → day ≤ getD orders (at + 1) noOrder .first .0)
 
 -- the settlements follow one another by day, all after one day and none after another
 abbrev pub Timely : ℕ → List Settlement → ℕ → Type 0
