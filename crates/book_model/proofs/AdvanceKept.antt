@@ -9,8 +9,8 @@ use Rattle.book_model.specs.declared.Book.{Book}
 use Rattle.book_model.specs.Advance.{lastSettled, daysPassed, advanced}
 use Rattle.book_model.specs.Book.{held, ratesOf, settlementsOf, withHeld, withAccount, withToday}
 use Rattle.book_model.specs.Schedule.{dailyOn}
-use Rattle.book_model.specs.Sound.{Sound, OpenSound}
-use Rattle.book_model.specs.Computation.{daysHeld}
+use Rattle.book_model.specs.Invariant.{Sound, OpenSound}
+use Rattle.book_model.specs.Closed.{daysHeld}
 use Rattle.book_model.proofs.Accepted.{daysTo, advance-cases}
 use Rattle.book_model.proofs.RatesInForce.{daily-most}
 use Rattle.account.proofs.Bounds.{bounded-elapsed, elapsed-outstanding, elapsed-principal-paid}
@@ -18,7 +18,7 @@ use Rattle.book_model.proofs.Cases.{true-not-false}
 use Rattle.book_model.proofs.ChangedBook.{Roomy, length-held, held-withHeld}
 use Rattle.book_model.proofs.DaysHeld.{holders-days, shares-days, receipts-days, unit-days-grown}
 use Rattle.book_model.proofs.DaysPassed.{passedAtOnce, days-at-once}
-use Rattle.book_model.proofs.Timeline.{from-start-later}
+use Rattle.book_model.proofs.Timeline.{begun-later}
 use Rattle.account.proofs.Timeline.{last-within, timely-later}
 
 -- n days more, within the term and the time for a settlement
@@ -54,7 +54,8 @@ module _ (b : Book) (h : Sound b) (is-open : b .opened ≡ true) (n : ℕ) (term
             (was .principal-whole);
         rates-most = was .rates-most;
         priced = was .priced;
-        from-start = from-start-later (ratesOf b) (b .today .0) (b .today .0 + n) (omega arith) (was .from-start);
+        from-start = was .from-start;
+        begun = begun-later (ratesOf b) (b .today .0) (b .today .0 + n) (omega arith) (was .begun);
         settlements-most = was .settlements-most;
         timely = timely-later 0 (settlementsOf b) (b .today .0) (b .today .0 + n) (omega arith) (was .timely);
         received-most = was .received-most;

@@ -6,7 +6,7 @@ use mathlib.Core.Path.{_≡_, refl, ap}
 use mathlib.Core.List.{List, [], _∷_, map}
 use Rattle.book_model.specs.declared.Position.{Position}
 use Rattle.book_model.specs.Positions.{holders, shares, unitDays, receipts, total}
-use Rattle.book_model.specs.Computation.{daysHeld}
+use Rattle.book_model.specs.Closed.{daysHeld}
 
 module _ (n : ℕ) where
   pub holders-days : (ps : List Position) → holders (map (daysHeld n) ps) ≡ holders ps

@@ -9,7 +9,7 @@ use lib.Seq.{drop-cons, take-suc, take-length, append-snoc, getD-at, set-at, len
 use Rattle.book_model.specs.declared.Book.{Book}
 use Rattle.book_model.specs.declared.Position.{Position}
 use Rattle.book_model.specs.Book.{withHeld}
-use Rattle.book_model.specs.Computation.{withStored}
+use Rattle.book_model.specs.Closed.{withStored}
 
 -- the first i places filled from the list ts, the others as in the array
 abbrev pub filled : {A : Type 0} → List A → ℕ → List A → List A

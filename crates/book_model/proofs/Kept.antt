@@ -14,7 +14,7 @@ use Rattle.book_model.specs.Outcome.{noPosition}
 use Rattle.book_model.specs.Positions.{paidFrom, unitDays}
 use Rattle.book_model.specs.Reached.{Reached, empty, opens, advances, rates, transfers, settles}
 use Rattle.book_model.specs.Settle.{settledBook, settled}
-use Rattle.book_model.specs.Sound.{Sound}
+use Rattle.book_model.specs.Invariant.{Sound}
 use Rattle.book_model.proofs.Accepted.{SettleRight, settle-cases}
 use Rattle.book_model.proofs.AdvanceKept.{advance-kept}
 use Rattle.book_model.proofs.Cases.{by-order, true-not-false}

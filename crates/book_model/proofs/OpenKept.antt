@@ -13,7 +13,7 @@ use Rattle.book_model.specs.Book.{emptyBook, held, ratesOf, orderFrom}
 use Rattle.account.specs.Opening.{opening}
 use Rattle.book_model.specs.Open.{founded, newBook, opened}
 use Rattle.account.specs.Schedule.{lastDay}
-use Rattle.book_model.specs.Sound.{Sound, OpenSound}
+use Rattle.book_model.specs.Invariant.{Sound, OpenSound}
 use Rattle.book_model.proofs.Accepted.{OpenRight, open-cases}
 use Rattle.account.proofs.Bounds.{bounded-opening}
 use Rattle.book_model.proofs.Cases.{true-not-false}
@@ -65,6 +65,7 @@ module _ (b : Book) (h : Sound b) (first : ℕ) (term : Day) (annual : ℕ) (cen
           rates-most = omega arith;
           priced = rw rates-new (right .annual-most, refl, tt);
           from-start = rw rates-new (refl, tt);
+          begun = rw rates-new (omega arith, tt);
           settlements-most = omega arith;
           timely = omega arith;
           received-most = omega arith;

@@ -17,7 +17,7 @@ use Rattle.book_model.specs.declared.Position.{Position}
 use Rattle.book_model.specs.Book.{held, fresh, withHeld, withAccount, withSettlement}
 use Rattle.book_model.specs.Positions.{paidPosition, paidFrom, unitDays, shares, receipts, holders, total}
 use Rattle.book_model.specs.Settle.{settledBook}
-use Rattle.book_model.specs.Sound.{OpenSound}
+use Rattle.book_model.specs.Invariant.{OpenSound}
 use Rattle.book_model.proofs.Cases.{by-order}
 use Rattle.book_model.proofs.ChangedBook.{Roomy, length-held}
 use Rattle.book_model.proofs.ListTotals.{total-most-of, sum-first, weight-total}

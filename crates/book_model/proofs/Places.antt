@@ -11,7 +11,7 @@ use lib.Seq.{drop-cons, getD-take}
 use Rattle.book_model.specs.declared.Position.{Position}
 use Rattle.book_model.specs.declared.positions.Found.the-variants.{At, Nothing}
 use Rattle.book_model.specs.Positions.{place, present, shareOf}
-use Rattle.book_model.specs.Computation.{foundIn}
+use Rattle.book_model.specs.Positions.{foundIn}
 
 -- A search from the front
 

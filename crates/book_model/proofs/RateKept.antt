@@ -6,17 +6,17 @@ use lib.ListN.{length, drop, length-append, length-drop}
 use Rattle.book_model.specs.declared.Book.{Book}
 use Rattle.account.specs.declared.RateOrder.{RateOrder}
 use Rattle.book_model.specs.Book.{ratesOf, settlementsOf}
-use Rattle.book_model.specs.Computation.{Priced}
+use Rattle.book_model.specs.Invariant.{Priced}
 use Rattle.book_model.specs.Rate.{withRates, rated}
 use Rattle.book_model.specs.Schedule.{dailyOn}
-use Rattle.book_model.specs.Sound.{Sound, OpenSound}
+use Rattle.book_model.specs.Invariant.{Sound, OpenSound}
 use Rattle.book_model.proofs.Accepted.{RateRight, orderOf, ratesAfter, accountAfter, revisedBook, rate-cases}
 use Rattle.account.proofs.AccountBounds.{account-bounded}
 use Rattle.book_model.proofs.RatesInForce.{daily-most}
 use Rattle.book_model.proofs.Cases.{true-not-false}
 use Rattle.account.proofs.NotOverpaid.{principal-whole}
 use Rattle.book_model.proofs.RateOrders.{rates-withRates}
-use Rattle.book_model.proofs.StoredRates.{length-with, priced-with, from-start-with}
+use Rattle.book_model.proofs.StoredRates.{length-with, priced-with, from-start-with, begun-with}
 
 module _ (b : Book) (h : Sound b) (date annual : ℕ) (right : RateRight b date annual) where
   was : OpenSound b
@@ -50,9 +50,8 @@ module _ (b : Book) (h : Sound b) (date annual : ℕ) (right : RateRight b date 
         principal-whole = principal-whole (b .recognised .0) (dailyOn (ratesAfter b order)) (settlementsOf b) (right .none-over) (b .today .0);
         rates-most = few;
         priced = rw rates-revised priced;
-        from-start =
-            rw rates-revised
-            (from-start-with order (b .today .0) (omega (arith, right .by-today)) (ratesOf b) (was .from-start));
+        from-start = rw rates-revised (from-start-with order (ratesOf b) (was .from-start));
+        begun = rw rates-revised (begun-with order (ratesOf b) (b .today .0) (omega (arith, right .by-today)) (was .begun));
         settlements-most = was .settlements-most;
         timely = was .timely;
         received-most = was .received-most;

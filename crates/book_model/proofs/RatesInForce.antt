@@ -14,13 +14,13 @@ use Rattle.account.specs.declared.Account.{Account}
 use Rattle.account.specs.declared.RateOrder.{RateOrder}
 use Rattle.account.specs.Accrual.{accruedDays}
 use Rattle.account.specs.Opening.{noOrder}
-use Rattle.account.specs.Invariant.{Moderate, Rising as Following, FromStart as Scheduled}
+use Rattle.account.specs.Invariant.{Moderate, FromStart}
 use Rattle.account.specs.Walk.{elapsed}
 use Rattle.account.specs.Schedule.{inForce, storedOn}
 use Rattle.book_model.specs.Schedule.{dailyOn}
 use Rattle.account.proofs.Bounds as bounds
 use Rattle.account.proofs.Segments.{elapsed-last}
-use Rattle.book_model.specs.Computation.{Priced, Rising, FromStart}
+use Rattle.book_model.specs.Invariant.{Priced, Begun}
 
 -- The daily number in force is the daily rate of the annual rate in force
 
@@ -52,37 +52,29 @@ pub daily-most : (orders : List RateOrder) → Priced orders → (day : ℕ) →
 daily-most orders p day =
     subst (λ (daily : ℕ → ℕ). daily day ≤ 1074597) (stored-is-daily orders p) (bounds.stored-most orders (moderate orders p) day)
 
-following : (day : ℕ) (os : List RateOrder) (today : ℕ) → Rising day os today → Following day os
-following day [] today r = tt
-following day (o ∷ os) today r = (r .0, following (o .first .0) os today (r .2))
-
-pub scheduled : (os : List RateOrder) (today : ℕ) → FromStart os today → Scheduled os
-scheduled [] today h = h
-scheduled (o ∷ os) today h = (h .0, rw (h .0) (following 0 os today (h .1)))
-
 -- From today on the last holds
 
-last-after : (o : RateOrder) (n : ℕ) (rs : List RateOrder) (today : ℕ) → Rising (o .first .0) (take n rs) today → n ≤ length rs → o .first .0 ≤ today
+last-after : (o : RateOrder) (n : ℕ) (rs : List RateOrder) (today : ℕ) → Begun (o ∷ take n rs) today → n ≤ length rs
     → (getD (o ∷ rs) n noOrder .first .0 ≤ today) × (o ∷ take n rs ≡ take n (o ∷ rs) ++ (getD (o ∷ rs) n noOrder ∷ []))
-last-after o zero rs today r room le = (le, refl)
-last-after o (suc n) [] today r room le = absurd (omega arith)
-last-after o (suc n) (x ∷ rs) today r room le =
-    let more = last-after x n rs today (r .2) (omega arith) (r .1) in (more .0, ap (λ (l : List RateOrder). o ∷ l) (more .1))
+last-after o zero rs today h room = (h .0, refl)
+last-after o (suc n) [] today h room = absurd (omega arith)
+last-after o (suc n) (x ∷ rs) today h room =
+    let more = last-after x n rs today (h .1) (omega arith) in (more .0, ap (λ (l : List RateOrder). o ∷ l) (more .1))
 
-pub last-order : (n : ℕ) (rs : List RateOrder) (today : ℕ) → FromStart (take n rs) today → n ≤ length rs
+pub last-order : (n : ℕ) (rs : List RateOrder) (today : ℕ) → FromStart (take n rs) → Begun (take n rs) today → n ≤ length rs
     → (0 < n) × (getD rs (n - 1) noOrder .first .0 ≤ today) × (take n rs ≡ take (n - 1) rs ++ (getD rs (n - 1) noOrder ∷ []))
-last-order zero rs today h room = absurd h
-last-order (suc n) [] today h room = absurd (omega arith)
-last-order (suc n) (o ∷ rs) today h room =
-    let last = last-after o n rs today (rw (h .0) (h .1)) (omega arith) (omega (arith, h .0)) in
+last-order zero rs today h begun room = absurd h
+last-order (suc n) [] today h begun room = absurd (omega arith)
+last-order (suc n) (o ∷ rs) today h begun room =
+    let last = last-after o n rs today begun (omega arith) in
     let e : suc n - 1 ≡ n = omega arith in
     (omega arith, rw e (last .0), rw e (last .1))
 
 -- the days from today on, at its daily rate
-pub last-elapses : (n : ℕ) (rs : List RateOrder) (today k : ℕ) (a : Account) → Priced (take n rs) → FromStart (take n rs) today → n ≤ length rs
+pub last-elapses : (n : ℕ) (rs : List RateOrder) (today k : ℕ) (a : Account) → Priced (take n rs) → FromStart (take n rs) → Begun (take n rs) today → n ≤ length rs
     → accruedDays k (getD rs (n - 1) noOrder .daily) a ≡ elapsed (dailyOn (take n rs)) today k a
-last-elapses n rs today k a p h room =
-    let last = last-order n rs today h room in
+last-elapses n rs today k a p h begun room =
+    let last = last-order n rs today h begun room in
     elapsed-last (take (n - 1) rs) (getD rs (n - 1) noOrder) today k a (last .1)
     ∙ ap (λ (os : List RateOrder). elapsed (storedOn os) today k a) (sym (last .2))
     ∙ ap (λ (daily : ℕ → ℕ). elapsed daily today k a) (stored-is-daily (take n rs) p)

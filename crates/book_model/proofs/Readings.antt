@@ -14,7 +14,7 @@ use Rattle.book_model.specs.Book.{held}
 use Rattle.book_model.specs.Outcome.{Placed, Totals, noPosition, notPlaced, noTotals, answered, declined}
 use Rattle.book_model.specs.Positions.{isHolder, place, present}
 use Rattle.book_model.specs.Read.{positionOf, positionAt, totalsOf}
-use Rattle.book_model.specs.Sound.{OpenSound}
+use Rattle.book_model.specs.Invariant.{OpenSound}
 use Rattle.book_model.proofs.Cases.{by-order}
 
 -- A position by holder

@@ -12,7 +12,7 @@ use Rattle.book_model.specs.Advance.{lastSettled}
 use Rattle.book_model.specs.Book.{settlementsOf, withHeld, withAccount, withSettlement}
 use Rattle.book_model.specs.Positions.{total}
 use Rattle.book_model.specs.Settle.{settledToday, settledBook, settled}
-use Rattle.book_model.specs.Sound.{Sound, OpenSound, settledCents}
+use Rattle.book_model.specs.Invariant.{Sound, OpenSound, settledCents}
 use Rattle.book_model.proofs.Accepted.{SettleRight, settle-cases}
 use Rattle.account.proofs.Bounds.{bounded-paid, paid-principal-kept}
 use Rattle.book_model.proofs.Cases.{true-not-false}
@@ -54,6 +54,7 @@ module _ (b : Book) (h : Sound b) (m : ℕ) (right : SettleRight b m) where
         rates-most = was .rates-most;
         priced = was .priced;
         from-start = was .from-start;
+        begun = was .begun;
         settlements-most = omega (arith, right .place-free);
         timely =
             rw settlements-settled

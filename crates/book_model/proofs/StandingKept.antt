@@ -19,7 +19,7 @@ use Rattle.book_model.specs.Rate.{rated}
 use Rattle.book_model.specs.Reached.{Reached, empty, opens, advances, rates, transfers, settles}
 use Rattle.book_model.specs.Schedule.{dailyOn}
 use Rattle.book_model.specs.Settle.{settledToday, settled}
-use Rattle.book_model.specs.Sound.{Sound}
+use Rattle.book_model.specs.Invariant.{Sound}
 use Rattle.account.specs.Standing.{settledOn, dayBegins, accountAt, overpaid}
 use Rattle.book_model.specs.Transfer.{transferred}
 use Rattle.book_model.proofs.Accepted.{daysTo, orderOf, open-cases, advance-cases, rate-cases, transfer-cases, settle-cases}

@@ -18,8 +18,8 @@ use Rattle.book_model.specs.Positions.{paidFrom, unitDays, shares, recei
 use Rattle.book_model.specs.Rate.{withRates}
 use Rattle.book_model.specs.Schedule.{dailyOn}
 use Rattle.book_model.specs.Settle.{settledToday, settledBook}
-use Rattle.book_model.specs.Sound.{Sound}
-use Rattle.book_model.specs.Computation.{daysHeld}
+use Rattle.book_model.specs.Invariant.{Sound}
+use Rattle.book_model.specs.Closed.{daysHeld}
 use Rattle.account.specs.Walk.{elapsed}
 use Rattle.book_model.proofs.Accepted.{AdvanceRight, SettleRight, daysTo, ratesAfter, accountAfter, revisedBook}
 use Rattle.book_model.proofs.Assigned.{assigned}

@@ -11,7 +11,8 @@ use lib.ListN.{length, take, drop, set, length-append}
 use lib.Seq.{take-at, take-take, set-split, append-snoc}
 use Rattle.rates.specs.Rate.{dailyOf}
 use Rattle.account.specs.declared.RateOrder.{RateOrder}
-use Rattle.book_model.specs.Computation.{Priced, Rising, FromStart}
+use Rattle.book_model.specs.Invariant.{Priced, Begun}
+use Rattle.account.specs.Invariant.{Rising, FromStart}
 use Rattle.book_model.specs.Rate.{startingBefore, withRate}
 
 -- How many start before a day
@@ -30,19 +31,19 @@ pub length-with : (o : RateOrder) (os : List RateOrder) → length (withRate o o
 length-with o os = rw length-append (omega arith)
 
 -- none does where all come after a day that is not before it
-none-before : (day from : ℕ) (os : List RateOrder) (today : ℕ) → day ≤ from → Rising from os today → startingBefore day os ≡ []
+none-before : (day from : ℕ) (os : List RateOrder) → day ≤ from → Rising from os → startingBefore day os ≡ []
 unfolding startingBefore
-none-before day from [] today le h = refl
-none-before day from (o ∷ os) today le h =
-    rw (le-ltb (o .first .0) day (omega (arith, h .0))) (none-before day (o .first .0) os today (omega (arith, h .0)) (h .2))
+none-before day from [] le h = refl
+none-before day from (o ∷ os) le h =
+    rw (le-ltb (o .first .0) day (omega (arith, h .0))) (none-before day (o .first .0) os (omega (arith, h .0)) (h .1))
 
 -- Those that do are the first ones
 
-module _ (day today : ℕ) where
+module _ (day : ℕ) where
   abbrev First : List RateOrder → Type 0
   First os = startingBefore day os ≡ take (length (startingBefore day os)) os
 
-  first-more : (o : RateOrder) (os : List RateOrder) → Rising (o .first .0) os today → First os → First (o ∷ os)
+  first-more : (o : RateOrder) (os : List RateOrder) → Rising (o .first .0) os → First os → First (o ∷ os)
   unfolding startingBefore
   first-more o os h ih = go (ltb (o .first .0) day) refl
     where
@@ -50,25 +51,24 @@ module _ (day today : ℕ) where
           → cond b (o ∷ startingBefore day os) (startingBefore day os)
           ≡ take (length (cond b (o ∷ startingBefore day os) (startingBefore day os))) (o ∷ os)
       go true e = ap (λ (l : List RateOrder). o ∷ l) ih
-      go false e = rw (none-before day (o .first .0) os today (ltb-false (o .first .0) day e) h)
+      go false e = rw (none-before day (o .first .0) os (ltb-false (o .first .0) day e) h)
 
-  first-rising : (from : ℕ) (os : List RateOrder) → Rising from os today → First os
+  first-rising : (from : ℕ) (os : List RateOrder) → Rising from os → First os
   unfolding startingBefore
   first-rising from [] h = refl
-  first-rising from (o ∷ os) h = first-more o os (h .2) (first-rising (o .first .0) os (h .2))
+  first-rising from (o ∷ os) h = first-more o os (h .1) (first-rising (o .first .0) os (h .1))
 
-  pub first-ones : (os : List RateOrder) → FromStart os today → First os
+  pub first-ones : (os : List RateOrder) → FromStart os → First os
   first-ones [] h = absurd h
-  first-ones (o ∷ os) h =
-      first-more o os (subst (λ (n : ℕ). Rising n os today) (sym (h .0)) (h .1)) (first-rising 0 os (h .1))
+  first-ones (o ∷ os) h = first-more o os (h .1) (first-rising (o .first .0) os (h .1))
 
 -- An order stored behind them, in an array of which so many places are in use
 
-module _ (rates : List RateOrder) (rated : ℕ) (o : RateOrder) (today : ℕ) (h : FromStart (take rated rates) today)
+module _ (rates : List RateOrder) (rated : ℕ) (o : RateOrder) (h : FromStart (take rated rates))
     (n : ℕ) (e : n ≡ length (startingBefore (o .first .0) (take rated rates))) (le : n ≤ rated) (lt : n < length rates) where
   kept : startingBefore (o .first .0) (take rated rates) ≡ take n rates
   kept =
-      first-ones (o .first .0) today (take rated rates) h
+      first-ones (o .first .0) (take rated rates) h
       ∙ ap (λ (k : ℕ). take k (take rated rates)) (sym e)
       ∙ take-take n rated rates le
 
@@ -94,26 +94,36 @@ priced-with o (x ∷ os) le d p = go (ltb (x .first .0) (o .first .0)) (priced-w
     go true ih = (p .0, p .1, ih)
     go false ih = ih
 
-module _ (o : RateOrder) (today : ℕ) (until : o .first .0 ≤ today) where
-  rising-with : (day : ℕ) (os : List RateOrder) → day < o .first .0 → Rising day os today → Rising day (withRate o os) today
-  unfolding startingBefore
-  rising-with day [] lt h = (lt, until, tt)
-  rising-with day (x ∷ os) lt h = go (ltb (x .first .0) (o .first .0)) refl (λ p. rising-with (x .first .0) os p (h .2))
-    where
-      go : (b : Bool) → ltb (x .first .0) (o .first .0) ≡ b → (x .first .0 < o .first .0 → Rising (x .first .0) (withRate o os) today)
-          → Rising day (cond b (x ∷ startingBefore (o .first .0) os) (startingBefore (o .first .0) os) ++ (o ∷ [])) today
-      go true e ih = (h .0, h .1, ih (ltb-true (x .first .0) (o .first .0) e))
-      go false e ih =
-          rw (none-before (o .first .0) (x .first .0) os today (ltb-false (x .first .0) (o .first .0) e) (h .2)) (lt, until, tt)
+pub begun-with : (o : RateOrder) (os : List RateOrder) (today : ℕ) → o .first .0 ≤ today → Begun os today → Begun (withRate o os) today
+unfolding startingBefore
+begun-with o [] today le h = (le, tt)
+begun-with o (x ∷ os) today le h = go (ltb (x .first .0) (o .first .0)) (begun-with o os today le (h .1))
+  where
+    go : (b : Bool) → Begun (withRate o os) today
+        → Begun (cond b (x ∷ startingBefore (o .first .0) os) (startingBefore (o .first .0) os) ++ (o ∷ [])) today
+    go true ih = (h .0, ih)
+    go false ih = ih
 
-  pub from-start-with : (os : List RateOrder) → FromStart os today → FromStart (withRate o os) today
+module _ (o : RateOrder) where
+  rising-with : (day : ℕ) (os : List RateOrder) → day < o .first .0 → Rising day os → Rising day (withRate o os)
+  unfolding startingBefore
+  rising-with day [] lt h = (lt, tt)
+  rising-with day (x ∷ os) lt h = go (ltb (x .first .0) (o .first .0)) refl (λ p. rising-with (x .first .0) os p (h .1))
+    where
+      go : (b : Bool) → ltb (x .first .0) (o .first .0) ≡ b → (x .first .0 < o .first .0 → Rising (x .first .0) (withRate o os))
+          → Rising day (cond b (x ∷ startingBefore (o .first .0) os) (startingBefore (o .first .0) os) ++ (o ∷ []))
+      go true e ih = (h .0, ih (ltb-true (x .first .0) (o .first .0) e))
+      go false e ih =
+          rw (none-before (o .first .0) (x .first .0) os (ltb-false (x .first .0) (o .first .0) e) (h .1)) (lt, tt)
+
+  pub from-start-with : (os : List RateOrder) → FromStart os → FromStart (withRate o os)
   unfolding startingBefore
   from-start-with [] h = absurd h
   from-start-with (x ∷ os) h = go (ltb (x .first .0) (o .first .0)) refl
     where
       go : (b : Bool) → ltb (x .first .0) (o .first .0) ≡ b
-          → FromStart (cond b (x ∷ startingBefore (o .first .0) os) (startingBefore (o .first .0) os) ++ (o ∷ [])) today
-      go true e = (h .0, rising-with 0 os (omega (arith, h .0, ltb-true (x .first .0) (o .first .0) e)) (h .1))
+          → FromStart (cond b (x ∷ startingBefore (o .first .0) os) (startingBefore (o .first .0) os) ++ (o ∷ []))
+      go true e = (h .0, rising-with (x .first .0) os (ltb-true (x .first .0) (o .first .0) e) (h .1))
       go false e =
           let le = ltb-false (x .first .0) (o .first .0) e in
-          rw (none-before (o .first .0) 0 os today (omega (arith, h .0, le)) (h .1)) (omega (arith, h .0, le), tt)
+          rw (none-before (o .first .0) (x .first .0) os le (h .1)) (omega (arith, h .0, le), tt)

@@ -6,7 +6,7 @@ use lib.ListN.{length, length-append, length-drop}
 use Rattle.book_model.specs.declared.Book.{Book}
 use Rattle.book_model.specs.declared.Parts.{Parts}
 use Rattle.book_model.specs.Book.{held, withHeld}
-use Rattle.book_model.specs.Sound.{Sound, OpenSound}
+use Rattle.book_model.specs.Invariant.{Sound, OpenSound}
 use Rattle.book_model.specs.Transfer.{transferred}
 use Rattle.book_model.proofs.Accepted.{TransferRight, transfer-cases}
 use Rattle.book_model.proofs.Assigned.{assigned, shares-kept, unit-days-kept, receipts-kept, holders-right-kept, distinct-kept}
@@ -42,6 +42,7 @@ module _ (b : Book) (h : Sound b) (c a n : ℕ) (right : TransferRight b c a n) 
         rates-most = was .rates-most;
         priced = was .priced;
         from-start = was .from-start;
+        begun = was .begun;
         settlements-most = was .settlements-most;
         timely = was .timely;
         received-most = was .received-most;

@@ -12,10 +12,10 @@ use Rattle.book_model.specs.declared.Parts.{Parts}
 use Rattle.book_model.specs.declared.Position.{Position}
 use Rattle.book_model.specs.declared.Refusal.the-variants as refusal
 use Rattle.book_model.specs.Book.{held, fresh, withHeld}
-use Rattle.book_model.specs.Computation.{withStored}
+use Rattle.book_model.specs.Closed.{withStored}
 use Rattle.book_model.specs.Outcome.{noParts, noPosition, accept, refuse}
 use Rattle.book_model.specs.Positions.{isHolder, place, present, shareOf, change, less, more}
-use Rattle.book_model.specs.Sound.{Sound, OpenSound}
+use Rattle.book_model.specs.Invariant.{Sound, OpenSound}
 use Rattle.book_model.specs.Transfer.{moved, transferred}
 use Rattle.book_model.proofs.Filled.{stored-held}
 use Rattle.book_model.proofs.Assigned.{assigned}

@@ -1,4 +1,4 @@
--- The definitions that the contracts cite. No call's contract cites `Computation` or `Sound`; `Calls` is cited by the theorem over lists.
+-- The definitions that the contracts cite. `Calls` is cited by the theorem over lists, `Closed` and `Invariant` by private contracts alone.
 pub mod Book
 pub mod Outcome
 pub mod Schedule
@@ -12,5 +12,5 @@ pub mod Rate
 pub mod Call
 pub mod Calls
 pub mod Reached
-pub mod Computation
-pub mod Sound
+pub mod Closed
+pub mod Invariant

@@ -5,6 +5,8 @@ use mathlib.Core.List.{List, [], _∷_, _++_, map}
 use lib.Dec.{leb, ltb, eqb}
 use lib.ListN.{length}
 use Rattle.book_model.specs.declared.Position.{Position}
+use Rattle.book_model.specs.declared.positions.Found.{Found}
+use Rattle.book_model.specs.declared.positions.Found.the-variants.{At, Nothing}
 use Rattle.book_model.specs.Book.{fresh}
 
 -- a holder's number: not "0 or over 999,999,999"
@@ -18,6 +20,9 @@ place h (p ∷ ps) = cond (eqb (p .holder) h) 0 (suc (place h ps))
 
 abbrev pub present : ℕ → List Position → Bool
 present h ps = ltb (place h ps) (length ps)
+
+abbrev pub foundIn : List Position → ℕ → Found
+foundIn ps h = cond (present h ps) (At (place h ps)) Nothing
 
 -- the holder's share; 0 where it has no position
 abbrev pub shareOf : ℕ → List Position → ℕ

@@ -2,7 +2,7 @@
 ghost use mathlib.Core.Path.{_≡_};
 ghost use lib.ListN.{take};
 ghost use Rattle.book_model.specs.Positions.{isHolder};
-ghost use Rattle.book_model.specs.Computation.{foundIn};
+ghost use Rattle.book_model.specs.Positions.{foundIn};
 use crate::Book;
 use crate::Position;
 use crate::numbers::lesser;

@@ -9,7 +9,7 @@ ghost use Rattle.account.specs.Invariant.{Fits};
 ghost use Rattle.book_model.specs.Outcome.{answered, refuse, noChanges, rateCase, rateStated};
 ghost use Rattle.book_model.specs.Rate.{startingBefore, changesOf, revised, ratedFrom, rated};
 ghost use Rattle.book_model.specs.Reached.{Reached};
-ghost use Rattle.book_model.specs.Sound.{Sound};
+ghost use Rattle.book_model.specs.Invariant.{Sound};
 use account::Reckoned;
 use book_model::Account;
 use book_model::Book;

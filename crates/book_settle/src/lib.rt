@@ -10,7 +10,7 @@ ghost use Rattle.book_model.specs.Outcome.{noPosition, settleCase, settleStated
 ghost use Rattle.book_model.specs.Positions.{paidPosition, paidFrom, unitDays, total};
 ghost use Rattle.book_model.specs.Reached.{Reached};
 ghost use Rattle.book_model.specs.Settle.{settled};
-ghost use Rattle.book_model.specs.Sound.{Sound};
+ghost use Rattle.book_model.specs.Invariant.{Sound};
 use account::Reckoned;
 use book_model::Account;
 use book_model::Book;

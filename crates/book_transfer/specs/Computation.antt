@@ -1,7 +1,7 @@
 -- What the parts of the computation give. Private contracts cite it; no public one does.
 use Rattle.book_model.specs.declared.Book.{Book}
 use Rattle.book_model.specs.declared.Parts.{Parts}
-use Rattle.book_model.specs.Computation.{withStored}
+use Rattle.book_model.specs.Closed.{withStored}
 use Rattle.book_model.specs.Outcome.{Outcome, transferCase}
 use Rattle.book_transfer.specs.declared.moving.Moving.{Moving}
 

@@ -7,7 +7,7 @@ ghost use Rattle.book_transfer.specs.Computation.{movingStated};
 ghost use Rattle.book_model.specs.Outcome.{refuse, noParts, transferStated};
 ghost use Rattle.book_model.specs.Positions.{place};
 ghost use Rattle.book_model.specs.Reached.{Reached};
-ghost use Rattle.book_model.specs.Sound.{Sound};
+ghost use Rattle.book_model.specs.Invariant.{Sound};
 ghost use Rattle.book_model.specs.Transfer.{moved, transferred};
 use book_model::Book;
 use book_model::Cents;

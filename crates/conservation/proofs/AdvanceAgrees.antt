@@ -5,8 +5,8 @@ use mathlib.Core.Path.{_≡_, sym, ap, subst, _∙_}
 use mathlib.Core.List.{map, map-map}
 use Rattle.book_model.specs.declared.Book.{Book}
 use Rattle.book_model.specs.Advance.{daysPassed}
-use Rattle.book_model.specs.Computation.{daysHeld}
-use Rattle.book_model.specs.Sound.{OpenSound, Sound}
+use Rattle.book_model.specs.Closed.{daysHeld}
+use Rattle.book_model.specs.Invariant.{OpenSound, Sound}
 use Rattle.book_model.specs.Call.{Opening}
 use Rattle.conservation.specs.Tally.{Tally, advance, dayOfDate, shareToday, shareDays, lastBefore, weight, portionOn, received}
 use Rattle.book_model.proofs.Accepted.{AdvanceRight, daysTo}

@@ -10,7 +10,7 @@ use Rattle.book_model.specs.declared.Position.{Position}
 use Rattle.book_model.specs.Book.{held, settlementsOf}
 use Rattle.book_model.specs.Open.{distinct}
 use Rattle.book_model.specs.Positions.{holders, shares, unitDays, receipts, total, among}
-use Rattle.book_model.specs.Sound.{OpenSound}
+use Rattle.book_model.specs.Invariant.{OpenSound}
 use Rattle.account.specs.Standing.{settledOn}
 use Rattle.conservation.specs.Tally.{Tally, shareToday, shareDays, lastBefore, weight, received}
 use Rattle.conservation.proofs.ByHolder.{positionWith, holders-are}

@@ -14,7 +14,7 @@ use Rattle.conservation.specs.Conservation.{centsOf}
 use Rattle.book_model.specs.Outcome.{Outcome, refusalNumber}
 use Rattle.book_model.specs.Positions.{receipts, total}
 use Rattle.book_model.specs.Rate.{withRates}
-use Rattle.book_model.specs.Sound.{Sound}
+use Rattle.book_model.specs.Invariant.{Sound}
 use Rattle.conservation.specs.Tally.{Tally, dayOfDate, entered}
 use Rattle.book_model.proofs.Accepted.{advance-cases, transfer-cases, settle-cases, no-refusal-is-0, orderOf, ratesAfter, accountAfter, rate-cases}
 use Rattle.conservation.proofs.AdvanceAgrees.{agrees-advanced}

@@ -13,7 +13,7 @@ use Rattle.book_model.specs.Calls.{bookAfter, accepts, run}
 use Rattle.book_model.specs.Outcome.{Outcome, refusalNumber}
 use Rattle.book_model.specs.Positions.{receipts, total}
 use Rattle.book_model.specs.Reached.{Reached, empty, opens}
-use Rattle.book_model.specs.Sound.{Sound}
+use Rattle.book_model.specs.Invariant.{Sound}
 use Rattle.book_model.proofs.Accepted.{orderOf, accountAfter, advance-cases, rate-cases, transfer-cases, settle-cases}
 use Rattle.book_model.proofs.Callers.{call-reached}
 use Rattle.book_model.proofs.Kept.{sound}

@@ -12,7 +12,7 @@ use Rattle.book_model.specs.Calls.{bookAfter, run}
 use Rattle.book_model.specs.Open.{opened}
 use Rattle.book_model.specs.Outcome.{Outcome}
 use Rattle.book_model.specs.Reached.{Reached, empty, opens, advances, rates, transfers, settles}
-use Rattle.book_model.specs.Sound.{Sound}
+use Rattle.book_model.specs.Invariant.{Sound}
 use Rattle.book_model.proofs.Accepted.{open-cases, advance-cases, rate-cases, transfer-cases, settle-cases}
 use Rattle.book_model.proofs.Cases.{by-test, true-not-false}
 use Rattle.book_model.proofs.Kept.{sound}

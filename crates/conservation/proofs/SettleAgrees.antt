@@ -15,7 +15,7 @@ use Rattle.book_model.specs.declared.Position.{Position}
 use Rattle.book_model.specs.Book.{held, settlementsOf}
 use Rattle.book_model.specs.Positions.{paidPosition, paidFrom, unitDays}
 use Rattle.book_model.specs.Settle.{settledToday, settledBook}
-use Rattle.book_model.specs.Sound.{OpenSound, Sound}
+use Rattle.book_model.specs.Invariant.{OpenSound, Sound}
 use Rattle.account.specs.Standing.{settledOn}
 use Rattle.conservation.specs.Tally.{Tally, settle, shareDays, weight, place, portionOf, portionOn, received}
 use Rattle.book_model.proofs.Accepted.{SettleRight}

@@ -15,7 +15,7 @@ use Rattle.book_model.specs.declared.Position.{Position}
 use Rattle.book_model.specs.Book.{fresh, held, withHeld}
 use Rattle.book_model.specs.Open.{distinct}
 use Rattle.book_model.specs.Positions.{present, shareOf, change, less, more, given, total, among}
-use Rattle.book_model.specs.Sound.{OpenSound, Sound}
+use Rattle.book_model.specs.Invariant.{OpenSound, Sound}
 use Rattle.conservation.specs.Tally.{Tally, movedShare, withHolder, transfer, shareToday, lastBefore, weight, place, portionOf, portionOn, received}
 use Rattle.book_model.proofs.Accepted.{TransferRight}
 use Rattle.conservation.proofs.Agreement.{Agrees, positionOf, unitDaysOf, holders-distinct, settled-weights}

@@ -15,7 +15,7 @@ use Rattle.book_model.specs.Open.{all}
 use Rattle.book_model.specs.Outcome.{noPosition}
 use Rattle.book_model.specs.Positions.{isHolder, holders}
 use Rattle.book_model.specs.Reached.{Reached}
-use Rattle.book_model.specs.Sound.{OpenSound}
+use Rattle.book_model.specs.Invariant.{OpenSound}
 use Rattle.book_model.proofs.Cases.{by-test, both-true}
 use Rattle.book_model.proofs.Kept.{sound}
 use Rattle.book_model.proofs.ListTotals.{total-most-of}

@@ -16,8 +16,8 @@ use Rattle.book_model.specs.Advance.{daysPassed, advanced}
 use Rattle.book_model.specs.Book.{held, ratesOf, settlementsOf, withHeld, withAccount, withToday}
 use Rattle.book_model.specs.Outcome.{Answer, Outcome, answered, declined, noDays, advanceCase}
 use Rattle.book_model.specs.Schedule.{dailyOn}
-use Rattle.book_model.specs.Sound.{Sound, OpenSound}
-use Rattle.book_model.specs.Computation.{daysHeld, withStored}
+use Rattle.book_model.specs.Invariant.{Sound, OpenSound}
+use Rattle.book_model.specs.Closed.{daysHeld, withStored}
 use Rattle.account.specs.Opening.{noOrder}
 use Rattle.account.specs.Walk.{elapsed}
 use Rattle.book_model.proofs.Accepted.{AdvanceRight, daysTo, advance-cases, no-refusal-is-0}
@@ -131,7 +131,7 @@ module _ (c : tie.After-known-told) where
 
   some-order : 0 < start .args .book .rated
   some-order =
-      last-order (start .args .book .rated) (start .args .book .rates) (start .args .book .today .0) (open-known .from-start) orders-fit .0
+      last-order (start .args .book .rated) (start .args .book .rates) (start .args .book .today .0) (open-known .from-start) (open-known .begun) orders-fit .0
 
   last-daily : getD (start .args .book .rates) (start .args .book .rated - 1) noOrder .daily ≤ 1074597
   last-daily =
@@ -172,7 +172,7 @@ returns c =
     accepted (start k .args .book) (start k .args .date) (is-sound k) (days k) (is-answer k) _ _ (c .before .hold-days .ensures)
     (c .before .before .before .accrue .ensures
     ∙ last-elapses (start k .args .book .rated) (start k .args .book .rates) (start k .args .book .today .0) (days k .0) (start k .args .book .account)
-    (open-known k .priced) (open-known k .from-start) (orders-fit k))
+    (open-known k .priced) (open-known k .from-start) (open-known k .begun) (orders-fit k))
 
 returns-2 : tie.Need-returns-2
 returns-2 c =

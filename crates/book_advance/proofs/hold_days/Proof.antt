@@ -9,7 +9,7 @@ use lib.Seq.{length-take-le, getD-take}
 use Rattle.book_model.specs.declared.Position.{Position}
 use Rattle.book_model.specs.Book.{fresh}
 use Rattle.book_model.specs.Positions.{shares, unitDays, total}
-use Rattle.book_model.specs.Computation.{daysHeld}
+use Rattle.book_model.specs.Closed.{daysHeld}
 use Rattle.book_model.proofs.DaysPassed.{daysHeld-at}
 use Rattle.book_model.proofs.Filled.{filled, filled-at, filled-step, filled-all}
 use Rattle.book_model.proofs.ListTotals.{total-most-of}

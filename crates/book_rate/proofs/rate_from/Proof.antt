@@ -16,7 +16,7 @@ use Rattle.book_model.specs.declared.Refusal.the-variants as refusal
 use Rattle.book_model.specs.Book.{ratesOf}
 use Rattle.book_model.specs.Outcome.{refuse, noChanges}
 use Rattle.book_model.specs.Rate.{startingBefore, revised, ratedFrom}
-use Rattle.book_model.specs.Sound.{OpenSound}
+use Rattle.book_model.specs.Invariant.{OpenSound}
 use Rattle.book_rate.proofs.rate_from.Statement.{statement}
 use Rattle.book_rate.proofs.rate_from.Tie as tie
 

@@ -15,12 +15,12 @@ use Rattle.account.specs.declared.Reckoned.{Reckoned}
 use Rattle.account.specs.declared.Reckoned.the-variants.{Standing, Overpaid, OutOfRange}
 use Rattle.book_model.specs.Book.{ratesOf, settlementsOf}
 use Rattle.rates.specs.Rate.{dailyOf}
-use Rattle.book_model.specs.Computation.{Priced}
+use Rattle.book_model.specs.Invariant.{Priced}
 use Rattle.account.specs.Invariant.{Fits}
 use Rattle.account.specs.Reckoning.{standing, replayed}
 use Rattle.book_model.specs.Outcome.{Answer, Outcome, Changes, answered, refuse, noChanges}
 use Rattle.book_model.specs.Rate.{startingBefore, withRates, changesOf, revised}
-use Rattle.book_model.specs.Sound.{Sound, OpenSound}
+use Rattle.book_model.specs.Invariant.{Sound, OpenSound}
 use Rattle.account.specs.Schedule.{storedOn}
 use Rattle.book_model.specs.Schedule.{dailyOn}
 use Rattle.account.specs.Standing.{overpaid}
@@ -68,11 +68,11 @@ module _ (b : Book) (h : Sound b) (is-open : b .opened ≡ true) (o : RateOrder)
   count = omega (arith, length-with o (ratesOf b))
 
   in-use : take (n + 1) (set (b .rates) n o) ≡ ratesAfter b o
-  in-use = stored-in-use (b .rates) (b .rated) o (b .today .0) (was .from-start) n e most (omega (arith, h .room-rates))
+  in-use = stored-in-use (b .rates) (b .rated) o (was .from-start) n e most (omega (arith, h .room-rates))
 
   array : set (b .rates) n o ≡ ratesAfter b o ++ drop (length (ratesAfter b o)) (b .rates)
   array =
-      stored (b .rates) (b .rated) o (b .today .0) (was .from-start) n e most (omega (arith, h .room-rates))
+      stored (b .rates) (b .rated) o (was .from-start) n e most (omega (arith, h .room-rates))
       ∙ ap (λ (k : ℕ). ratesAfter b o ++ drop k (b .rates)) count
 
   module _ (le : o .annual ≤ 4000) (d : o .daily ≡ dailyOf (o .annual)) (until : o .first .0 ≤ b .today .0) (answer : Reckoned)
@@ -85,7 +85,7 @@ module _ (b : Book) (h : Sound b) (is-open : b .opened ≡ true) (o : RateOrder)
         replay-told (b .recognised .0) (set (b .rates) n o) (n + 1) (b .settlements) (b .settled) (b .today .0) (was .recognised-most)
         (omega (arith, was .within-term, was .term-most)) (omega arith) (was .settlements-most)
         (rw in-use (moderate (ratesAfter b o) all-priced))
-        (rw in-use (scheduled (ratesAfter b o) (b .today .0) (from-start-with o (b .today .0) until (ratesOf b) (was .from-start))))
+        (rw in-use (from-start-with o (ratesOf b) (was .from-start)))
         (was .timely) answer f
         ∙ ap (λ (os : List RateOrder). standing (b .recognised .0) (storedOn os) (settlementsOf b) (b .today .0)) in-use
         ∙ ap (λ (daily : ℕ → ℕ). standing (b .recognised .0) daily (settlementsOf b) (b .today .0)) (stored-is-daily (ratesAfter b o) all-priced)

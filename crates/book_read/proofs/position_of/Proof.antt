@@ -7,7 +7,7 @@ use borrow.Author.Needs.{needs}
 use borrow.Author.Tests.{not-false}
 use Rattle.book_model.specs.Book.{held}
 use Rattle.book_model.specs.Positions.{isHolder, place, present}
-use Rattle.book_model.specs.Sound.{OpenSound}
+use Rattle.book_model.specs.Invariant.{OpenSound}
 use Rattle.book_model.proofs.ChangedBook.{length-held}
 use Rattle.book_model.proofs.Kept.{sound}
 use Rattle.book_model.proofs.Places.{found-at, found-nothing}

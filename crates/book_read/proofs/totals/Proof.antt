@@ -4,7 +4,7 @@ use mathlib.Core.Logic.{⊎-elim}
 use borrow.Author.Needs.{needs}
 use borrow.Author.Tests.{not-false}
 use Rattle.calendar.proofs.Cases.{date-tells, refused-tells}
-use Rattle.book_model.specs.Sound.{OpenSound}
+use Rattle.book_model.specs.Invariant.{OpenSound}
 use Rattle.book_model.proofs.Cases.{true-not-false}
 use Rattle.book_model.proofs.Kept.{sound}
 use Rattle.book_model.proofs.Readings.{totals-unopened, totals-open, today-counted}

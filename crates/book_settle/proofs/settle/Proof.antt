@@ -7,7 +7,7 @@ use Rattle.book_model.specs.declared.Book.{Book}
 use Rattle.book_model.specs.Book.{held, withAccount, withSettlement}
 use Rattle.book_model.specs.Outcome.{Answer, Outcome, Taken, settleCase}
 use Rattle.book_model.specs.Positions.{unitDays, total}
-use Rattle.book_model.specs.Sound.{OpenSound}
+use Rattle.book_model.specs.Invariant.{OpenSound}
 use Rattle.book_model.proofs.Accepted.{SettleRight}
 use Rattle.account.proofs.Bounds.{fits}
 use Rattle.book_model.proofs.ChangedBook.{Roomy}

@@ -8,7 +8,7 @@ use borrow.Author.Needs.{needs}
 use lib.ListN.{length, take, drop}
 use lib.Seq.{length-take-le, drop-length}
 use Rattle.book_model.specs.declared.Position.{Position}
-use Rattle.book_model.specs.Computation.{foundIn}
+use Rattle.book_model.specs.Positions.{foundIn}
 use Rattle.book_model.specs.Outcome.{noPosition}
 use Rattle.book_model.specs.Positions.{place}
 use Rattle.book_model.proofs.InUse.{take-in-use}

@@ -1,22 +1,34 @@
--- What holds of every reached book: the limits of its lists, and sizes that make the arithmetic fit.
+-- The invariant: what holds of every reached book, the limits of its lists and sizes that make the arithmetic fit. Private contracts alone cite
+-- it; nobody has to believe it.
 use Prim.Native.Nat.{ℕ, _+_, _-_, _*_, _≤_, _<_}
 use mathlib.Core.Path.{_≡_}
 use mathlib.Core.Bool.{true, false}
-use mathlib.Core.List.{List, map}
+use mathlib.Core.List.{List, [], _∷_, map}
 use lib.ListN.{length}
 use Rattle.calendar.specs.Calendar.{isDate}
+use Rattle.rates.specs.Rate.{dailyOf}
 use Rattle.book_model.specs.declared.Book.{Book}
+use Rattle.account.specs.declared.RateOrder.{RateOrder}
 use Rattle.account.specs.declared.Settlement.{Settlement}
 use Rattle.book_model.specs.Advance.{lastSettled}
 use Rattle.book_model.specs.Book.{emptyBook, held, ratesOf, settlementsOf}
 use Rattle.book_model.specs.Open.{all, distinct}
 use Rattle.book_model.specs.Positions.{isHolder, holders, shares, unitDays, receipts, total}
-use Rattle.book_model.specs.Computation.{Priced, FromStart}
-use Rattle.account.specs.Invariant.{Bounded, Timely}
+use Rattle.account.specs.Invariant.{Bounded, FromStart, Timely}
 
 -- the cents of the settlements
 abbrev pub settledCents : List Settlement → List ℕ
 settledCents ss = map (λ (s : Settlement). s .cents .0) ss
+
+-- every stored rate is one that has a daily rate, and stands beside it
+abbrev pub Priced : List RateOrder → Type 0
+Priced [] = Unit {0}
+Priced (o ∷ os) = (o .annual ≤ 4000) × (o .daily ≡ dailyOf (o .annual)) × Priced os
+
+-- no stored rate begins after today
+abbrev pub Begun : List RateOrder → ℕ → Type 0
+Begun [] today = Unit {0}
+Begun (o ∷ os) today = (o .first .0 ≤ today) × Begun os today
 
 pub record OpenSound (b : Book) : Type 0 where
   -- days
@@ -32,7 +44,8 @@ pub record OpenSound (b : Book) : Type 0 where
   -- rates
   pub rates-most : b .rated ≤ 16
   pub priced : Priced (ratesOf b)
-  pub from-start : FromStart (ratesOf b) (b .today .0)
+  pub from-start : FromStart (ratesOf b)
+  pub begun : Begun (ratesOf b) (b .today .0)
   -- settlements
   pub settlements-most : b .settled ≤ 240
   pub timely : Timely 0 (settlementsOf b) (b .today .0)
