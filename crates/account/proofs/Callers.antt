@@ -1,95 +1,20 @@
+-- What callers may cite of this crate, by the file that proves it.
+
+-- One turn of a loop that reads the first n elements of an array: what remains from the next index on.
+pub use Rattle.account.proofs.Turns.{none-remains, remains}
+-- The figures of an account stay within bounds: at most 107,459,701 cents of interest a day, and no principal but the first.
+pub use Rattle.account.proofs.Bounds.{bounded-elapsed, bounded-opening, bounded-paid, elapsed-outstanding, elapsed-principal-paid, fits, paid-principal-kept, stored-most}
+-- While one order holds, the days are days at its rate.
+pub use Rattle.account.proofs.Segments.{elapsed-last}
+-- Stored settlements beside today: a later today, and one settlement more.
+pub use Rattle.account.proofs.Timeline.{last-joined, last-within, timely-joined, timely-later}
+-- A day's settlement off the stored list: none after the last, and one settlement more.
+pub use Rattle.account.proofs.SettledDays.{none-after-last, none-after-today, none-yet, settled-joined}
+-- The account from day to day: days without a settlement elapse, and a settlement pays off.
+pub use Rattle.account.proofs.AccountSteps.{account-elapsed, account-paid-off, begins-same}
+-- Where no settlement is over due plus outstanding, the principal is whole on every day; and one settlement more that is not over.
+pub use Rattle.account.proofs.NotOverpaid.{not-over-joined, principal-whole}
+-- Where no settlement is over due plus outstanding, the account of every day stays within the bounds of that day.
+pub use Rattle.account.proofs.AccountBounds.{account-bounded}
 -- What callers whose numbers are in range learn of an answer.
-use Prim.Native.Nat.{ℕ, _≤_}
-use native.Mathlib.Omega.{arith}
-use mathlib.Core.Path.{_≡_, refl, sym, _∙_}
-use mathlib.Core.Bool.{Bool, true, false, cond}
-use mathlib.Core.List.{List}
-use lib.ListN.{take}
-use Rattle.account.specs.declared.Account.{Account}
-use Rattle.account.specs.declared.RateOrder.{RateOrder}
-use Rattle.account.specs.declared.Reckoned.{Reckoned}
-use Rattle.account.specs.declared.Reckoned.the-variants.{Standing, Overpaid, OutOfRange}
-use Rattle.account.specs.declared.Settlement.{Settlement}
-use Rattle.account.specs.Accrual.{accruedDays, paidOff, worth}
-use Rattle.account.specs.Invariant.{Fits, Moderate, FromStart, Timely}
-use Rattle.account.specs.Reckoning.{accrued, paid, standing, replayed}
-use Rattle.account.specs.Schedule.{storedOn}
-use Rattle.account.specs.Standing.{accountAt, overpaid}
-use Rattle.account.proofs.RangeTests.{fits-account, schedule-told, timely-told}
-use Rattle.account.proofs.Reckonings.{accrues, pays, replays}
-
--- an answer is one thing
-same-account : (a b : Account) → Standing a ≡ Standing b → a ≡ b
-same-account a b e = cc
-
-not-over : {A : Type 0} (a : Account) → Overpaid ≡ Standing a → A
-not-over a e = let z : _≡_ {A = ℕ} 0 1 = cc in absurd (omega arith)
-
-not-out : {A : Type 0} (a : Account) → OutOfRange ≡ Standing a → A
-not-out a e = let z : _≡_ {A = ℕ} 0 1 = cc in absurd (omega arith)
-
-module _ (a : Account) (h : Fits a) where
-  module _ (d n : ℕ) (low : d ≤ 1074597) (few : n ≤ 6000) (r : Reckoned) (e : r ≡ accrued a d n) where
-    told : r ≡ Standing (accruedDays n d a)
-    told = e ∙ sym (accrues a d n (fits-account a h) low few)
-
-    pub accrued-is : (x : Account) → r ≡ Standing x → x ≡ accruedDays n d a
-    accrued-is x q = same-account x _ (sym q ∙ told)
-
-    pub accrued-within : {A : Type 0} → r ≡ Overpaid → A
-    accrued-within q = not-over _ (sym q ∙ told)
-
-    pub accrued-in-range : {A : Type 0} → r ≡ OutOfRange → A
-    accrued-in-range q = not-out _ (sym q ∙ told)
-
-  module _ (m : ℕ) (within : m ≤ worth a) (r : Reckoned) (e : r ≡ paid a m) where
-    paid-told : r ≡ Standing (paidOff m a)
-    paid-told = e ∙ sym (pays a m (fits-account a h) within)
-
-    pub paid-is : (x : Account) → r ≡ Standing x → x ≡ paidOff m a
-    paid-is x q = same-account x _ (sym q ∙ paid-told)
-
-    pub paid-within : {A : Type 0} → r ≡ Overpaid → A
-    paid-within q = not-over _ (sym q ∙ paid-told)
-
-    pub paid-in-range : {A : Type 0} → r ≡ OutOfRange → A
-    paid-in-range q = not-out _ (sym q ∙ paid-told)
-
--- a replay within range
-pub replay-told : (recognised : ℕ) (rates : List RateOrder) (rated : ℕ) (ss : List Settlement) (settled today : ℕ)
-    → recognised ≤ 1000000000000 → today ≤ 6000 → rated ≤ 16 → settled ≤ 240
-    → Moderate (take rated rates) → FromStart (take rated rates) → Timely 0 (take settled ss) today
-    → (r : Reckoned) → r ≡ replayed recognised rates rated ss settled today
-    → r ≡ standing recognised (storedOn (take rated rates)) (take settled ss) today
-replay-told recognised rates rated ss settled today small soon few some m h t r e =
-    e
-    ∙ sym (replays recognised rates rated ss settled today small soon few some (schedule-told _ m h) (timely-told 0 (take settled ss) today t))
-
-module _ (recognised : ℕ) (daily : ℕ → ℕ) (ss : List Settlement) (today : ℕ) (r : Reckoned)
-    (e : r ≡ standing recognised daily ss today) where
-  abbrev answer : Bool → Reckoned
-  answer over = cond over Overpaid (Standing (accountAt recognised daily ss today))
-
-  go-standing : (over : Bool) (x : Account) → Standing x ≡ answer over → (over ≡ false) × (x ≡ accountAt recognised daily ss today)
-  go-standing true x q = let z : _≡_ {A = ℕ} 0 1 = cc in absurd (omega arith)
-  go-standing false x q = (refl, same-account x _ q)
-
-  pub stands : (x : Account) → r ≡ Standing x → (overpaid recognised daily ss ≡ false) × (x ≡ accountAt recognised daily ss today)
-  unfolding standing
-  stands x q = go-standing _ x (sym q ∙ e)
-
-  go-over : (over : Bool) → Overpaid ≡ answer over → over ≡ true
-  go-over true q = refl
-  go-over false q = not-over _ q
-
-  pub is-over : r ≡ Overpaid → overpaid recognised daily ss ≡ true
-  unfolding standing
-  is-over q = go-over _ (sym q ∙ e)
-
-  go-out : {A : Type 0} (over : Bool) → OutOfRange ≡ answer over → A
-  go-out true q = let z : _≡_ {A = ℕ} 0 1 = cc in absurd (omega arith)
-  go-out false q = not-out _ q
-
-  pub in-range : {A : Type 0} → r ≡ OutOfRange → A
-  unfolding standing
-  in-range q = go-out (overpaid recognised daily ss) (sym q ∙ e)
+pub use Rattle.account.proofs.InRange.{accrued-in-range, accrued-is, accrued-within, in-range, is-over, paid-in-range, paid-is, paid-within, replay-told, stands}

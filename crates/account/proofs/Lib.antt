@@ -13,4 +13,5 @@ pub mod Replays
 pub mod RangeTests
 pub mod Walks
 pub mod Reckonings
+pub mod InRange
 pub mod Callers

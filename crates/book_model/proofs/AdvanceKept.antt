@@ -13,13 +13,12 @@ use Rattle.book_model.specs.Invariant.{Sound, OpenSound}
 use Rattle.book_model.specs.Closed.{daysHeld}
 use Rattle.book_model.proofs.Accepted.{daysTo, advance-cases}
 use Rattle.book_model.proofs.RatesInForce.{daily-most}
-use Rattle.account.proofs.Bounds.{bounded-elapsed, elapsed-outstanding, elapsed-principal-paid}
+use Rattle.account.proofs.Callers.{bounded-elapsed, elapsed-outstanding, elapsed-principal-paid, last-within, timely-later}
 use Rattle.book_model.proofs.Cases.{true-not-false}
 use Rattle.book_model.proofs.ChangedBook.{Roomy, length-held, held-withHeld}
 use Rattle.book_model.proofs.DaysHeld.{holders-days, shares-days, receipts-days, unit-days-grown}
 use Rattle.book_model.proofs.DaysPassed.{passedAtOnce, days-at-once}
 use Rattle.book_model.proofs.Timeline.{begun-later}
-use Rattle.account.proofs.Timeline.{last-within, timely-later}
 
 -- n days more, within the term and the time for a settlement
 module _ (b : Book) (h : Sound b) (is-open : b .opened ≡ true) (n : ℕ) (term : b .today .0 + n ≤ b .term .0)

@@ -3,7 +3,7 @@ pub mod Filled
 pub mod Cases
 pub mod InUse
 pub mod ChangedBook
-pub mod Callers
+pub mod CallsReach
 pub mod Timeline
 pub mod DaysPassed
 pub mod ListTotals
@@ -31,3 +31,4 @@ pub mod RateOrders
 pub mod StandingKept
 pub mod StoredRates
 pub mod RateKept
+pub mod Callers

@@ -15,7 +15,7 @@ use Rattle.book_model.specs.Open.{founded, newBook, opened}
 use Rattle.account.specs.Schedule.{lastDay}
 use Rattle.book_model.specs.Invariant.{Sound, OpenSound}
 use Rattle.book_model.proofs.Accepted.{OpenRight, open-cases}
-use Rattle.account.proofs.Bounds.{bounded-opening}
+use Rattle.account.proofs.Callers.{bounded-opening}
 use Rattle.book_model.proofs.Cases.{true-not-false}
 use Rattle.book_model.proofs.Founded.{length-founded, founded-holders, founded-shares, founded-unit-days, founded-receipts}
 

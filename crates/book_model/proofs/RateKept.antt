@@ -11,10 +11,9 @@ use Rattle.book_model.specs.Rate.{withRates, rated}
 use Rattle.book_model.specs.Schedule.{dailyOn}
 use Rattle.book_model.specs.Invariant.{Sound, OpenSound}
 use Rattle.book_model.proofs.Accepted.{RateRight, orderOf, ratesAfter, accountAfter, revisedBook, rate-cases}
-use Rattle.account.proofs.AccountBounds.{account-bounded}
+use Rattle.account.proofs.Callers.{account-bounded, principal-whole}
 use Rattle.book_model.proofs.RatesInForce.{daily-most}
 use Rattle.book_model.proofs.Cases.{true-not-false}
-use Rattle.account.proofs.NotOverpaid.{principal-whole}
 use Rattle.book_model.proofs.RateOrders.{rates-withRates}
 use Rattle.book_model.proofs.StoredRates.{length-with, priced-with, from-start-with, begun-with}
 

@@ -18,7 +18,7 @@ use Rattle.book_model.specs.Rate.{startingBefore, withRate, withRates}
 use Rattle.book_model.specs.Schedule.{annualOn, dailyOn}
 use Rattle.account.specs.Schedule.{inForce}
 use Rattle.account.specs.Standing.{settledOn, payingOff, accountAt}
-use Rattle.account.proofs.AccountSteps.{begins-same}
+use Rattle.account.proofs.Callers.{begins-same}
 
 pub rates-withRates : (b : Book) (orders : List RateOrder) (a : Account) → ratesOf (withRates b orders a) ≡ orders
 unfolding withRates

@@ -1,5 +1,4 @@
--- Stored rates as the account takes them: the daily number in force is the daily rate of the annual rate in force, and from today on the last
--- one holds.
+-- Stored rates as the account takes them: each daily number is its annual rate's, and from today on the last one holds.
 use Prim.Native.Nat.{ℕ, zero, suc, _+_, _-_, _≤_, _<_}
 use native.Mathlib.Omega.{arith}
 use mathlib.Core.Path.{_≡_, refl, sym, ap, subst, fun-ext, _∙_}
@@ -18,8 +17,7 @@ use Rattle.account.specs.Invariant.{Moderate, FromStart}
 use Rattle.account.specs.Walk.{elapsed}
 use Rattle.account.specs.Schedule.{inForce, storedOn}
 use Rattle.book_model.specs.Schedule.{dailyOn}
-use Rattle.account.proofs.Bounds as bounds
-use Rattle.account.proofs.Segments.{elapsed-last}
+use Rattle.account.proofs.Callers.{stored-most, elapsed-last}
 use Rattle.book_model.specs.Invariant.{Priced, Begun}
 
 -- The daily number in force is the daily rate of the annual rate in force
@@ -50,7 +48,7 @@ moderate (o ∷ os) p = (rw (p .1) (greatest (o .annual) (p .0)), moderate os (p
 
 pub daily-most : (orders : List RateOrder) → Priced orders → (day : ℕ) → dailyOn orders day ≤ 1074597
 daily-most orders p day =
-    subst (λ (daily : ℕ → ℕ). daily day ≤ 1074597) (stored-is-daily orders p) (bounds.stored-most orders (moderate orders p) day)
+    subst (λ (daily : ℕ → ℕ). daily day ≤ 1074597) (stored-is-daily orders p) (stored-most orders (moderate orders p) day)
 
 -- From today on the last holds
 

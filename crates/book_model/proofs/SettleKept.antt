@@ -14,10 +14,9 @@ use Rattle.book_model.specs.Positions.{total}
 use Rattle.book_model.specs.Settle.{settledToday, settledBook, settled}
 use Rattle.book_model.specs.Invariant.{Sound, OpenSound, settledCents}
 use Rattle.book_model.proofs.Accepted.{SettleRight, settle-cases}
-use Rattle.account.proofs.Bounds.{bounded-paid, paid-principal-kept}
+use Rattle.account.proofs.Callers.{bounded-paid, paid-principal-kept, last-joined, timely-joined}
 use Rattle.book_model.proofs.Cases.{true-not-false}
 use Rattle.book_model.proofs.Paid.{count-settled, holders-settled, shares-settled, unit-days-settled, receipts-settled}
-use Rattle.account.proofs.Timeline.{last-joined, timely-joined}
 use Rattle.book_model.proofs.ListTotals.{total-append}
 
 module _ (b : Book) (h : Sound b) (m : ℕ) (right : SettleRight b m) where

@@ -23,10 +23,8 @@ use Rattle.book_model.specs.Invariant.{Sound}
 use Rattle.account.specs.Standing.{settledOn, dayBegins, accountAt, overpaid}
 use Rattle.book_model.specs.Transfer.{transferred}
 use Rattle.book_model.proofs.Accepted.{daysTo, orderOf, open-cases, advance-cases, rate-cases, transfer-cases, settle-cases}
-use Rattle.account.proofs.AccountSteps.{account-elapsed, account-paid-off}
+use Rattle.account.proofs.Callers.{account-elapsed, account-paid-off, not-over-joined, none-after-last, none-after-today}
 use Rattle.book_model.proofs.Kept.{sound}
-use Rattle.account.proofs.NotOverpaid.{not-over-joined}
-use Rattle.account.proofs.SettledDays.{none-after-last, none-after-today}
 use Rattle.book_model.proofs.Steps.{advance-step, rate-step, transfer-step, settle-step}
 
 pub record Standing (b : Book) : Type 0 where

@@ -9,11 +9,10 @@ use Rattle.book_model.specs.Closed.{daysHeld}
 use Rattle.book_model.specs.Invariant.{OpenSound, Sound}
 use Rattle.book_model.specs.Call.{Opening}
 use Rattle.conservation.specs.Tally.{Tally, advance, dayOfDate, shareToday, shareDays, lastBefore, weight, portionOn, received}
-use Rattle.book_model.proofs.Accepted.{AdvanceRight, daysTo}
+use Rattle.book_model.proofs.Callers.{AdvanceRight, daysTo, AdvanceStep, advance-step}
 use Rattle.conservation.proofs.Agreement.{Agrees, positionOf, unitDaysOf, none-ahead}
 use Rattle.conservation.proofs.ByHolder.{position-same}
 use Rattle.conservation.proofs.Members.{map-same}
-use Rattle.book_model.proofs.Steps.{AdvanceStep, advance-step}
 use Rattle.conservation.proofs.TallyDays.{sum-further, last-most, last-further, share-days-further}
 
 -- n days more

@@ -14,7 +14,7 @@ use Rattle.book_model.specs.Invariant.{OpenSound}
 use Rattle.account.specs.Standing.{settledOn}
 use Rattle.conservation.specs.Tally.{Tally, shareToday, shareDays, lastBefore, weight, received}
 use Rattle.conservation.proofs.ByHolder.{positionWith, holders-are}
-use Rattle.account.proofs.SettledDays.{none-after-today, none-yet}
+use Rattle.account.proofs.Callers.{none-after-today, none-yet}
 use Rattle.conservation.proofs.TallyDays.{weights-some}
 
 -- a holder's unit-days: its shares from the last settlement's day (or day 0) to the day before today

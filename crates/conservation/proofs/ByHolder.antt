@@ -14,7 +14,7 @@ use Rattle.book_model.specs.Open.{distinct, founded}
 use Rattle.book_model.specs.Positions.{place, present, shareOf, change, paidPosition, paidFrom, holders, among}
 use Rattle.conservation.specs.Tally.{listed}
 use Rattle.conservation.specs.Tally as tally
-use Rattle.book_model.proofs.Cases.{true-not-false, neither-true}
+use Rattle.book_model.proofs.Callers.{true-not-false, neither-true}
 use Rattle.conservation.proofs.Members.{member-other, first-apart, map-same, place-within, place-without}
 
 -- positions are the same where their numbers are

@@ -16,14 +16,11 @@ use Rattle.book_model.specs.Positions.{receipts, total}
 use Rattle.book_model.specs.Rate.{withRates}
 use Rattle.book_model.specs.Invariant.{Sound}
 use Rattle.conservation.specs.Tally.{Tally, dayOfDate, entered}
-use Rattle.book_model.proofs.Accepted.{advance-cases, transfer-cases, settle-cases, no-refusal-is-0, orderOf, ratesAfter, accountAfter, rate-cases}
+use Rattle.book_model.proofs.Callers.{advance-cases, transfer-cases, settle-cases, no-refusal-is-0, orderOf, ratesAfter, accountAfter, rate-cases, receipts-kept, receipts-settled, advance-step, transfer-step}
 use Rattle.conservation.proofs.AdvanceAgrees.{agrees-advanced}
 use Rattle.conservation.proofs.Agreement.{Agrees}
-use Rattle.book_model.proofs.Assigned.{receipts-kept}
-use Rattle.book_model.proofs.Paid.{receipts-settled}
 use Rattle.conservation.proofs.RateAgrees.{agrees-rated}
 use Rattle.conservation.proofs.SettleAgrees.{agrees-settled}
-use Rattle.book_model.proofs.Steps.{advance-step, transfer-step}
 use Rattle.conservation.proofs.TransferAgrees.{agrees-transferred}
 
 -- a refusal is not accepted

@@ -14,11 +14,7 @@ use Rattle.book_model.specs.Outcome.{Outcome, refusalNumber}
 use Rattle.book_model.specs.Positions.{receipts, total}
 use Rattle.book_model.specs.Reached.{Reached, empty, opens}
 use Rattle.book_model.specs.Invariant.{Sound}
-use Rattle.book_model.proofs.Accepted.{orderOf, accountAfter, advance-cases, rate-cases, transfer-cases, settle-cases}
-use Rattle.book_model.proofs.Callers.{call-reached}
-use Rattle.book_model.proofs.Kept.{sound}
-use Rattle.book_model.proofs.StandingKept.{standing}
-use Rattle.book_model.proofs.Steps.{advance-step, transfer-step, settle-step}
+use Rattle.book_model.proofs.Callers.{orderOf, accountAfter, advance-cases, rate-cases, transfer-cases, settle-cases, call-reached, sound, standing, advance-step, transfer-step, settle-step}
 use Rattle.conservation.specs.Conservation.{openingOf, feedOf, acceptedCents, Conservation}
 use Rattle.conservation.specs.Tally.{Tally, start, dayOfDate, entered, fedWith}
 use Rattle.conservation.proofs.Agreement.{Agrees, holders-same, shares-same, shares-whole, receipts-same}

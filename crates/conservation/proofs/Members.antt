@@ -10,9 +10,7 @@ use lib.ListN.{length}
 use Rattle.book_model.specs.Open.{distinct}
 use Rattle.book_model.specs.Positions.{total, among}
 use Rattle.conservation.specs.Tally.{appears, withHolder, place}
-use Rattle.book_model.proofs.Assigned.{distinct-last}
-use Rattle.book_model.proofs.Cases.{choice, true-not-false, both-true, neither-true}
-use Rattle.book_model.proofs.ListTotals.{total-append}
+use Rattle.book_model.proofs.Callers.{distinct-last, choice, true-not-false, both-true, neither-true, total-append}
 
 -- Membership
 

@@ -10,9 +10,9 @@ use Rattle.account.specs.Standing.{settledOn}
 use Rattle.book_model.specs.Call.{Opening}
 use Rattle.conservation.specs.Tally.{Tally, dailyOfDay, sumsOn, sumsToday, outstandingOn, dueOf, outstandingOf}
 use Rattle.conservation.proofs.AccountTally.{SameFigures, account-is-tally}
-use Rattle.account.proofs.NotOverpaid as not-overpaid
+use Rattle.account.proofs.Callers.{principal-whole as whole-principal}
 use Rattle.conservation.proofs.SameTerms.{SameTerms}
-use Rattle.book_model.proofs.StandingKept.{Standing}
+use Rattle.book_model.proofs.Callers.{Standing}
 use Rattle.conservation.proofs.TallySums.{through-same, through-accrued}
 
 -- the fields of Conserved
@@ -42,7 +42,7 @@ module _ (o : Opening) (b : Book) (t : Tally) (is : Standing b) (terms : SameTer
   whole : b .account .outstanding .0 + b .account .«principal_paid» .0 ≡ o .cents
   whole =
       rw (is .account-is)
-      (not-overpaid.principal-whole (b .recognised .0) (dailyOn (ratesOf b)) (settlementsOf b) (is .not-over) (b .today .0) ∙ terms .recognised)
+      (whole-principal (b .recognised .0) (dailyOn (ratesOf b)) (settlementsOf b) (is .not-over) (b .today .0) ∙ terms .recognised)
 
   pub money-conserved : MoneyConserved o b t
   unfolding sumsOn outstandingOn

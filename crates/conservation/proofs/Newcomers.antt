@@ -14,7 +14,7 @@ use Rattle.apportionment.specs.Apportionment.{totalWeight, quotient, remainder,
 use Rattle.apportionment.specs.Sum.{sumBelow}
 use Rattle.apportionment.proofs.Laws.{nothing-for-none}
 use Rattle.apportionment.proofs.Sums.{sum-same, count-same, count-suc}
-use Rattle.book_model.proofs.ListTotals.{total-append, weight-total}
+use Rattle.book_model.proofs.Callers.{total-append, weight-total}
 
 never-both : (t : Bool) → t && false ≡ false
 never-both true = refl

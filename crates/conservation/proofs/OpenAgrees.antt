@@ -11,13 +11,9 @@ use Rattle.book_model.specs.Positions.{shares, receipts, total}
 use Rattle.account.specs.Standing.{settledOn}
 use Rattle.book_model.specs.Call.{Opening}
 use Rattle.conservation.specs.Tally.{listed, start, shareDays, lastBefore, portionOn, received}
-use Rattle.book_model.proofs.Accepted.{open-cases, no-refusal-is-0}
+use Rattle.book_model.proofs.Callers.{open-cases, no-refusal-is-0, Financed, founded-shares, founded-receipts, empty-sound, OpenStep, open-step}
 use Rattle.conservation.proofs.Agreement.{Agrees, unitDaysOf}
 use Rattle.conservation.proofs.ByHolder.{founded-is, listed-none}
-use Rattle.book_model.proofs.Financing.{Financed}
-use Rattle.book_model.proofs.Founded.{founded-shares, founded-receipts}
-use Rattle.book_model.proofs.Kept.{empty-sound}
-use Rattle.book_model.proofs.Steps.{OpenStep, open-step}
 
 module _ (o : Opening) where
   module _ (c : Book) (step : OpenStep (o .first) (record { 0 = o .term }) (o .annual) (record { 0 = o .cents }) (o .holders) (o .shares) c)

@@ -13,9 +13,7 @@ use Rattle.book_model.specs.Open.{opened}
 use Rattle.book_model.specs.Outcome.{Outcome}
 use Rattle.book_model.specs.Reached.{Reached, empty, opens, advances, rates, transfers, settles}
 use Rattle.book_model.specs.Invariant.{Sound}
-use Rattle.book_model.proofs.Accepted.{open-cases, advance-cases, rate-cases, transfer-cases, settle-cases}
-use Rattle.book_model.proofs.Cases.{by-test, true-not-false}
-use Rattle.book_model.proofs.Kept.{sound}
+use Rattle.book_model.proofs.Callers.{open-cases, advance-cases, rate-cases, transfer-cases, settle-cases, by-test, true-not-false, sound}
 use Rattle.conservation.specs.Conservation.{openingOf, feedOf, Conserved, History, ReachedConserved}
 use Rattle.conservation.specs.Tally.{start, fedWith}
 use Rattle.conservation.proofs.Conserved.{conserved}

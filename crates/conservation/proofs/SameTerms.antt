@@ -10,8 +10,7 @@ use Rattle.book_model.specs.Rate.{withRate, withRates}
 use Rattle.book_model.specs.Schedule.{annualOn}
 use Rattle.book_model.specs.Call.{Opening}
 use Rattle.conservation.specs.Tally.{Tally, start, advance, revise, transfer, settle, dayOfDate}
-use Rattle.book_model.proofs.RateOrders.{rates-withRates, annual-opened, rate-sets-from}
-use Rattle.book_model.proofs.Steps.{OpenStep, SameRight}
+use Rattle.book_model.proofs.Callers.{rates-withRates, annual-opened, rate-sets-from, OpenStep, SameRight}
 
 pub record SameTerms (o : Opening) (b : Book) (t : Tally) : Type 0 where
   pub first : b .first ≡ o .first

@@ -18,12 +18,11 @@ use Rattle.book_model.specs.Settle.{settledToday, settledBook}
 use Rattle.book_model.specs.Invariant.{OpenSound, Sound}
 use Rattle.account.specs.Standing.{settledOn}
 use Rattle.conservation.specs.Tally.{Tally, settle, shareDays, weight, place, portionOf, portionOn, received}
-use Rattle.book_model.proofs.Accepted.{SettleRight}
+use Rattle.book_model.proofs.Callers.{SettleRight, SettleStep, settle-step}
 use Rattle.conservation.proofs.Agreement.{Agrees, positionOf, unitDaysOf, holders-distinct, unit-days-same}
 use Rattle.conservation.proofs.ByHolder.{position-same, paid-is}
 use Rattle.conservation.proofs.Members.{map-same}
-use Rattle.account.proofs.SettledDays.{none-after-last, settled-joined}
-use Rattle.book_model.proofs.Steps.{SettleStep, settle-step}
+use Rattle.account.proofs.Callers.{none-after-last, settled-joined}
 use Rattle.conservation.proofs.TallyDays.{last-none, last-some, share-days-none, weight-same}
 
 module _ (b : Book) (known : OpenSound b) (t : Tally) (agrees : Agrees b t) (m : ℕ) (right : SettleRight b m) where

@@ -11,7 +11,7 @@ use Rattle.apportionment.specs.Sum.{sumBelow}
 use Rattle.apportionment.proofs.Sums.{sum-same}
 use Rattle.book_model.specs.Positions.{total}
 use Rattle.conservation.specs.Tally.{Tally, shareDays, isSettled, lastBefore, weight}
-use Rattle.book_model.proofs.Cases.{choice}
+use Rattle.book_model.proofs.Callers.{choice}
 use Rattle.conservation.proofs.Members.{total-le}
 
 -- Sums below a bound

@@ -17,15 +17,11 @@ use Rattle.book_model.specs.Open.{distinct}
 use Rattle.book_model.specs.Positions.{present, shareOf, change, less, more, given, total, among}
 use Rattle.book_model.specs.Invariant.{OpenSound, Sound}
 use Rattle.conservation.specs.Tally.{Tally, movedShare, withHolder, transfer, shareToday, lastBefore, weight, place, portionOf, portionOn, received}
-use Rattle.book_model.proofs.Accepted.{TransferRight}
+use Rattle.book_model.proofs.Callers.{TransferRight, assigned, choice, by-order, true-not-false, weight-total, TransferStep, transfer-step}
 use Rattle.conservation.proofs.Agreement.{Agrees, positionOf, unitDaysOf, holders-distinct, settled-weights}
-use Rattle.book_model.proofs.Assigned.{assigned}
 use Rattle.conservation.proofs.ByHolder.{positionWith, position-same, present-is, share-is, changedAt, change-is}
-use Rattle.book_model.proofs.Cases.{choice, by-order, true-not-false}
-use Rattle.book_model.proofs.ListTotals.{weight-total}
 use Rattle.conservation.proofs.Members.{member-other, map-same, place-within, place-kept, place-last, added, still-among, added-among, away-before, added-distinct, added-total, total-both, onlyAt, total-at}
 use Rattle.conservation.proofs.Newcomers.{part-kept, part-last}
-use Rattle.book_model.proofs.Steps.{TransferStep, transfer-step}
 use Rattle.conservation.proofs.TallyDays.{sum-zero, share-days-same, share-days-absent, weight-same}
 
 -- A settlement's portions by weights f, where the assignee a comes last without any

@@ -7,7 +7,7 @@ use mathlib.Core.List.{List}
 use borrow.Author.Tests.{eqb-true, ne-eqb}
 use lib.Dec.{eqb}
 use lib.ListN.{length, getD}
-use Rattle.book_model.proofs.Cases.{choice}
+use Rattle.book_model.proofs.Callers.{choice}
 use Rattle.lines.specs.declared.Fields.{Fields}
 use Rattle.lines.specs.declared.ReadAnswer.the-variants as read-answer
 use Rattle.lines.specs.Field.{fieldAt}

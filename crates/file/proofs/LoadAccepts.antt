@@ -11,9 +11,7 @@ use Rattle.book_model.specs.Book.{emptyBook}
 use Rattle.book_model.specs.Call.{Opening, Call}
 use Rattle.book_model.specs.Calls.{openedWith, bookAfter, numberOf, accepts, run}
 use Rattle.book_model.specs.Outcome as book-outcome
-use Rattle.book_model.proofs.Accepted.{no-refusal-is-0, open-cases}
-use Rattle.book_model.proofs.Cases.{both-true}
-use Rattle.book_model.proofs.Financing.{Financed}
+use Rattle.book_model.proofs.Callers.{no-refusal-is-0, open-cases, both-true, Financed}
 use Rattle.conservation.specs.Conservation.{openingOf}
 use Rattle.lines.specs.Lines.{lines}
 use Rattle.file.specs.Order.{Order, Open, Finance, Later, End, orderIn}

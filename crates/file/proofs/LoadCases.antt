@@ -10,7 +10,7 @@ use lib.ListN.{length}
 use Rattle.book_model.specs.declared.Book.{Book}
 use Rattle.book_model.specs.Call.{Opening, Call}
 use Rattle.book_model.specs.Calls.{openedWith, bookAfter, numberOf}
-use Rattle.book_model.proofs.Cases.{choice, true-not-false}
+use Rattle.book_model.proofs.Callers.{choice, true-not-false}
 use Rattle.file.specs.Order.{Order, Open, Finance, Later, End, Malformed, orderIn}
 use Rattle.file.specs.Load.{Outcome, Waiting, None, Waits, accepted, refusedBy, openingWith, withHolder, loadFrom}
 use Rattle.file.specs.Load.{afterCall, afterOpen, financed, afterFinancing, ended, afterLine, noneLeft, beginsWithF}

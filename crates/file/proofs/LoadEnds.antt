@@ -12,8 +12,7 @@ use Rattle.book_model.specs.declared.Refusal.the-variants as book-refusal
 use Rattle.book_model.specs.Call.{Opening, Call, Advance, Rate, Transfer, Settle}
 use Rattle.book_model.specs.Calls.{openedWith, bookAfter, numberOf}
 use Rattle.book_model.specs.Outcome as book-outcome
-use Rattle.book_model.proofs.Accepted.{open-cases, advance-cases, rate-cases, transfer-cases, settle-cases}
-use Rattle.book_model.proofs.Cases.{choice}
+use Rattle.book_model.proofs.Callers.{open-cases, advance-cases, rate-cases, transfer-cases, settle-cases, choice}
 use Rattle.lines.specs.Line.{lineOf}
 use Rattle.lines.specs.Lines.{lines}
 use Rattle.file.specs.Order.{Order, Open, Finance, Later, End, Malformed, orderIn}

@@ -12,8 +12,7 @@ use Rattle.book_model.specs.Open.{newBook, opened}
 use Rattle.book_model.specs.Outcome.{Outcome}
 use Rattle.book_model.specs.Rate.{withRates}
 use Rattle.book_model.specs.Settle.{settledBook}
-use Rattle.book_model.proofs.Accepted.{no-refusal-is-0, open-cases, advance-cases, rate-cases, transfer-cases, settle-cases}
-use Rattle.book_model.proofs.Cases.{true-not-false}
+use Rattle.book_model.proofs.Callers.{no-refusal-is-0, open-cases, advance-cases, rate-cases, transfer-cases, settle-cases, true-not-false}
 use Rattle.conservation.specs.Conservation.{openingOf}
 
 days-open : (n : ℕ) (b : Book) → daysPassed n b .opened ≡ b .opened

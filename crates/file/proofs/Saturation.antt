@@ -11,8 +11,7 @@ use Rattle.book_model.specs.Calls.{openedWith}
 use Rattle.book_model.specs.Outcome.{Outcome as Result}
 use Rattle.book_model.specs.Open.{isFinancing, opened}
 use Rattle.book_model.specs.Positions.{total}
-use Rattle.book_model.proofs.Cases.{by-test, by-order}
-use Rattle.book_model.proofs.Financing.{financed}
+use Rattle.book_model.proofs.Callers.{by-test, by-order, financed}
 use Rattle.file.specs.Order.{Order, Open, Finance, Later, End, Malformed, orderIn}
 use Rattle.file.specs.Load.{Outcome, Waiting, Waits, openingWith, afterCall, beginsWithF, afterOpen, afterFinancing, loadFrom}
 use Rattle.file.specs.Computation.{saturated}

@@ -9,8 +9,7 @@ use lib.ListN.{length, getD, drop}
 use borrow.Author.Tests.{ne-eqb, eqb-true, eqb-false}
 use Rattle.book_model.specs.declared.Book.{Book}
 use Rattle.book_model.specs.Call.{Call, Advance, Rate, Transfer, Settle}
-use Rattle.book_model.proofs.Accepted.{no-refusal-is-0}
-use Rattle.book_model.proofs.Cases.{by-test, choice}
+use Rattle.book_model.proofs.Callers.{no-refusal-is-0, by-test, choice}
 use Rattle.lines.specs.declared.Fields.{Fields}
 use Rattle.lines.specs.declared.ReadAnswer.the-variants as read-answer
 use Rattle.lines.specs.Line.{readStated, lineOf}

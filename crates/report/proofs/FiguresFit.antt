@@ -16,9 +16,7 @@ use Rattle.book_model.specs.Outcome.{noPosition}
 use Rattle.book_model.specs.Positions.{isHolder, holders}
 use Rattle.book_model.specs.Reached.{Reached}
 use Rattle.book_model.specs.Invariant.{OpenSound}
-use Rattle.book_model.proofs.Cases.{by-test, both-true}
-use Rattle.book_model.proofs.Kept.{sound}
-use Rattle.book_model.proofs.ListTotals.{total-most-of}
+use Rattle.book_model.proofs.Callers.{by-test, both-true, sound, total-most-of}
 use Rattle.report.specs.Statements.{TotalsFit, PositionFits}
 
 -- a reached book is the empty one, or open and sound

@@ -9,7 +9,7 @@ use lib.ListN.{length, set, length-set}
 use lib.Seq.{sets, length-sets}
 use Rattle.account.specs.declared.Account.{Account}
 use Rattle.book_model.specs.declared.Position.{Position}
-use Rattle.book_model.proofs.Cases.{choice}
+use Rattle.book_model.proofs.Callers.{choice}
 use Rattle.lines.specs.Field.{justified}
 use Rattle.lines.specs.Write.{numberPut}
 use Rattle.lines.proofs.NumberPut.{put-within, length-put}

@@ -16,11 +16,7 @@ use Rattle.book_model.specs.Book.{held}
 use Rattle.book_model.specs.Outcome.{noPosition, placeStated}
 use Rattle.book_model.specs.Reached.{Reached}
 use Rattle.book_model.specs.Read.{positionAt}
-use Rattle.book_model.proofs.Accepted.{no-refusal-is-0}
-use Rattle.book_model.proofs.Cases.{by-order}
-use Rattle.book_model.proofs.ChangedBook.{length-held}
-use Rattle.book_model.proofs.Kept.{sound}
-use Rattle.book_model.proofs.Readings.{place-beyond, place-known}
+use Rattle.book_model.proofs.Callers.{no-refusal-is-0, by-order, length-held, sound, place-beyond, place-known}
 use Rattle.lines.proofs.Stores.{sets-append}
 use Rattle.report.specs.Statement.{positionLine, positionLines}
 use Rattle.report.proofs.StatementLengths.{positions-length}

@@ -5,7 +5,7 @@ use Prim.Native.Nat.{ℕ, _≤_}
 use native.Mathlib.Omega.{arith}
 use lib.Dec.{leb}
 use lib.ListN.{length, drop, length-append}
-use Rattle.book_model.proofs.Cases.{choice}
+use Rattle.book_model.proofs.Callers.{choice}
 use Rattle.report.specs.declared.Reported.{Reported}
 use Rattle.report.specs.declared.Reported.the-variants.{Printed}
 use Rattle.report.specs.Statement.{reportStated, reportOf, statementOf}

@@ -12,9 +12,7 @@ use Rattle.book_model.specs.declared.Position.{Position}
 use Rattle.book_model.specs.Book.{emptyBook, held}
 use Rattle.book_model.specs.Reached.{Reached, empty}
 use Rattle.book_model.specs.Read.{totalsOf}
-use Rattle.book_model.proofs.Cases.{by-test, choice}
-use Rattle.book_model.proofs.ChangedBook.{length-held}
-use Rattle.book_model.proofs.Kept.{sound}
+use Rattle.book_model.proofs.Callers.{by-test, choice, length-held, sound}
 use Rattle.file.specs.Load.{loadOf}
 use Rattle.file.proofs.LoadRuns.{reached-kept}
 use Rattle.lines.proofs.Stores.{length-justified}

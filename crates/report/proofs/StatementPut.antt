@@ -17,9 +17,7 @@ use Rattle.book_model.specs.declared.TotalsAnswer.the-variants as totals-answer
 use Rattle.book_model.specs.Book.{emptyBook, held}
 use Rattle.book_model.specs.Outcome.{Answer, Totals, totalsStated}
 use Rattle.book_model.specs.Read.{totalsOf}
-use Rattle.book_model.proofs.Accepted.{no-refusal-is-0}
-use Rattle.book_model.proofs.Cases.{by-test}
-use Rattle.book_model.proofs.Readings.{totals-unopened}
+use Rattle.book_model.proofs.Callers.{no-refusal-is-0, by-test, totals-unopened}
 use Rattle.lines.specs.Line.{malformedNumber}
 use Rattle.lines.proofs.Stores.{sets-append}
 use Rattle.file.specs.declared.LoadAnswer.{LoadAnswer}

@@ -20,14 +20,8 @@ use Rattle.book_model.specs.Invariant.{Sound, OpenSound}
 use Rattle.book_model.specs.Closed.{daysHeld, withStored}
 use Rattle.account.specs.Opening.{noOrder}
 use Rattle.account.specs.Walk.{elapsed}
-use Rattle.book_model.proofs.Accepted.{AdvanceRight, daysTo, advance-cases, no-refusal-is-0}
-use Rattle.book_model.proofs.ChangedBook.{Roomy, length-held}
-use Rattle.book_model.proofs.DaysPassed.{days-at-once}
-use Rattle.book_model.proofs.Filled.{withArray}
-use Rattle.book_model.proofs.Kept.{sound}
-use Rattle.account.proofs.Bounds.{fits}
-use Rattle.book_model.proofs.RatesInForce.{last-order, last-elapses, priced-at}
-use Rattle.account.proofs.Timeline.{last-within}
+use Rattle.book_model.proofs.Callers.{AdvanceRight, daysTo, advance-cases, no-refusal-is-0, Roomy, length-held, days-at-once, withArray, sound, last-order, last-elapses, priced-at}
+use Rattle.account.proofs.Callers.{fits, last-within}
 use Rattle.book_advance.proofs.advance.Statement.{statement}
 use Rattle.book_advance.proofs.advance.Tie as tie
 

@@ -10,9 +10,7 @@ use Rattle.book_model.specs.declared.Position.{Position}
 use Rattle.book_model.specs.Book.{fresh}
 use Rattle.book_model.specs.Positions.{shares, unitDays, total}
 use Rattle.book_model.specs.Closed.{daysHeld}
-use Rattle.book_model.proofs.DaysPassed.{daysHeld-at}
-use Rattle.book_model.proofs.Filled.{filled, filled-at, filled-step, filled-all}
-use Rattle.book_model.proofs.ListTotals.{total-most-of}
+use Rattle.book_model.proofs.Callers.{daysHeld-at, filled, filled-at, filled-step, filled-all, total-most-of}
 use Rattle.book_advance.proofs.hold_days.Statement.{statement}
 use Rattle.book_advance.proofs.hold_days.Tie as tie
 

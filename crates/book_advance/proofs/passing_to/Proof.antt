@@ -14,7 +14,7 @@ use Rattle.book_model.specs.Advance.{lastSettled, advancedTo}
 use Rattle.book_model.specs.Book.{settlementsOf}
 use Rattle.book_model.specs.Outcome.{answered, declined, noDays}
 use Rattle.book_model.specs.Invariant.{OpenSound}
-use Rattle.account.proofs.Timeline.{last-within}
+use Rattle.account.proofs.Callers.{last-within}
 use Rattle.book_advance.proofs.passing_to.Statement.{statement}
 use Rattle.book_advance.proofs.passing_to.Tie as tie
 

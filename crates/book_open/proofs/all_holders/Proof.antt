@@ -7,7 +7,7 @@ use borrow.Author.Needs.{needs}
 use borrow.Author.Tests.{not-true, not-false}
 use Rattle.book_model.specs.Open.{all}
 use Rattle.book_model.specs.Positions.{isHolder}
-use Rattle.book_model.proofs.Asked.{all-passed, all-failed}
+use Rattle.book_model.proofs.Callers.{all-passed, all-failed}
 use Rattle.book_open.proofs.all_holders.Statement.{statement}
 use Rattle.book_open.proofs.all_holders.Tie as tie
 

@@ -5,7 +5,7 @@ use mathlib.Core.Path.{_≡_, refl, sym, ap, _∙_}
 use lib.ListN.{length, drop, drop-of-length-le}
 use borrow.Author.Tests.{eq-eqb, ne-eqb}
 use Rattle.book_model.specs.Open.{all, isShare}
-use Rattle.book_model.proofs.Asked.{all-passed, all-failed}
+use Rattle.book_model.proofs.Callers.{all-passed, all-failed}
 use Rattle.book_open.proofs.all_shares.Statement.{statement}
 use Rattle.book_open.proofs.all_shares.Tie as tie
 

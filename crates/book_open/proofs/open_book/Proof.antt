@@ -7,8 +7,7 @@ use mathlib.Core.Bool.{true, false}
 use Rattle.calendar.specs.Calendar.{isDate}
 use Rattle.book_model.specs.Open.{isTerm, isRecognised, isFinancing}
 use Rattle.book_model.specs.Outcome.{accept, nothing}
-use Rattle.book_model.proofs.Financing.{financed}
-use Rattle.book_model.proofs.OpenCases.{already-open, no-date, wrong-term, wrong-amount, wrong-rate, wrong-financing, opens-right}
+use Rattle.book_model.proofs.Callers.{financed, already-open, no-date, wrong-term, wrong-amount, wrong-rate, wrong-financing, opens-right}
 use Rattle.book_open.proofs.open_book.Statement.{statement}
 use Rattle.book_open.proofs.open_book.Tie as tie
 

@@ -5,8 +5,7 @@ use mathlib.Core.Path.{_≡_, refl, sym}
 use lib.ListN.{length}
 use Rattle.book_model.specs.Book.{fresh, withHeld}
 use Rattle.book_model.specs.Open.{founded}
-use Rattle.book_model.proofs.Filled.{filled, withArray, filled-step, filled-all}
-use Rattle.book_model.proofs.Founded.{length-founded, founded-at}
+use Rattle.book_model.proofs.Callers.{filled, withArray, filled-step, filled-all, length-founded, founded-at}
 use Rattle.book_open.proofs.place_holders.Statement.{statement}
 use Rattle.book_open.proofs.place_holders.Tie as tie
 

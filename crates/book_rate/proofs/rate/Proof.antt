@@ -11,7 +11,7 @@ use Rattle.book_model.specs.declared.Book.{Book}
 use Rattle.book_model.specs.declared.Refusal.the-variants as refusal
 use Rattle.book_model.specs.Outcome.{refuse, noChanges}
 use Rattle.book_model.specs.Rate.{ratedFrom, rated}
-use Rattle.book_model.proofs.Kept.{sound}
+use Rattle.book_model.proofs.Callers.{sound}
 use Rattle.book_rate.proofs.rate.Statement.{statement}
 use Rattle.book_rate.proofs.rate.Tie as tie
 

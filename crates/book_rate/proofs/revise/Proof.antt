@@ -24,12 +24,8 @@ use Rattle.book_model.specs.Invariant.{Sound, OpenSound}
 use Rattle.account.specs.Schedule.{storedOn}
 use Rattle.book_model.specs.Schedule.{dailyOn}
 use Rattle.account.specs.Standing.{overpaid}
-use Rattle.book_model.proofs.Accepted.{ratesAfter, accountAfter}
-use Rattle.account.proofs.AccountBounds.{account-bounded}
-use Rattle.account.proofs.Bounds.{fits}
-use Rattle.account.proofs.Callers.{replay-told, stands, is-over, in-range}
-use Rattle.book_model.proofs.RatesInForce.{stored-is-daily, daily-most, moderate, scheduled}
-use Rattle.book_model.proofs.StoredRates.{count-most, length-with, priced-with, from-start-with, stored, stored-in-use}
+use Rattle.book_model.proofs.Callers.{ratesAfter, accountAfter, stored-is-daily, daily-most, moderate, count-most, length-with, priced-with, from-start-with, stored, stored-in-use}
+use Rattle.account.proofs.Callers.{account-bounded, fits, replay-told, stands, is-over, in-range}
 use Rattle.book_rate.proofs.revise.Statement.{statement}
 use Rattle.book_rate.proofs.revise.Tie as tie
 

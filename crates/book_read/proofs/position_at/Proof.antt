@@ -2,8 +2,7 @@
 use Prim.Native.Nat.{_≤_}
 use native.Mathlib.Omega.{arith}
 use borrow.Author.Tests.{not-false}
-use Rattle.book_model.proofs.Kept.{sound}
-use Rattle.book_model.proofs.Readings.{place-unopened, place-beyond, place-known}
+use Rattle.book_model.proofs.Callers.{sound, place-unopened, place-beyond, place-known}
 use Rattle.book_read.proofs.position_at.Statement.{statement}
 use Rattle.book_read.proofs.position_at.Tie as tie
 

@@ -8,10 +8,7 @@ use borrow.Author.Tests.{not-false}
 use Rattle.book_model.specs.Book.{held}
 use Rattle.book_model.specs.Positions.{isHolder, place, present}
 use Rattle.book_model.specs.Invariant.{OpenSound}
-use Rattle.book_model.proofs.ChangedBook.{length-held}
-use Rattle.book_model.proofs.Kept.{sound}
-use Rattle.book_model.proofs.Places.{found-at, found-nothing}
-use Rattle.book_model.proofs.Readings.{position-unopened, position-no-holder, position-unknown, position-known}
+use Rattle.book_model.proofs.Callers.{length-held, sound, found-at, found-nothing, position-unopened, position-no-holder, position-unknown, position-known}
 use Rattle.book_read.proofs.position_of.Statement.{statement}
 use Rattle.book_read.proofs.position_of.Tie as tie
 

@@ -5,9 +5,7 @@ use borrow.Author.Needs.{needs}
 use borrow.Author.Tests.{not-false}
 use Rattle.calendar.proofs.Cases.{date-tells, refused-tells}
 use Rattle.book_model.specs.Invariant.{OpenSound}
-use Rattle.book_model.proofs.Cases.{true-not-false}
-use Rattle.book_model.proofs.Kept.{sound}
-use Rattle.book_model.proofs.Readings.{totals-unopened, totals-open, today-counted}
+use Rattle.book_model.proofs.Callers.{true-not-false, sound, totals-unopened, totals-open, today-counted}
 use Rattle.book_read.proofs.totals.Statement.{statement}
 use Rattle.book_read.proofs.totals.Tie as tie
 

@@ -6,7 +6,7 @@ use borrow.Author.Needs.{needs}
 use lib.ListN.{length, take, drop}
 use lib.Seq.{length-take-le}
 use Rattle.book_model.specs.declared.Position.{Position}
-use Rattle.book_model.proofs.Paid.{parts-most, paid-by-parts}
+use Rattle.book_model.proofs.Callers.{parts-most, paid-by-parts}
 use Rattle.book_settle.proofs.pay_out.Statement.{statement}
 use Rattle.book_settle.proofs.pay_out.Tie as tie
 

@@ -9,8 +9,7 @@ use lib.Seq.{length-take-le, getD-take}
 use Rattle.book_model.specs.declared.Position.{Position}
 use Rattle.book_model.specs.Outcome.{noPosition}
 use Rattle.book_model.specs.Positions.{paidPosition, paidFrom}
-use Rattle.book_model.proofs.Filled.{filled, filled-at, filled-step, filled-all}
-use Rattle.book_model.proofs.Paid.{length-paid, paid-at}
+use Rattle.book_model.proofs.Callers.{filled, filled-at, filled-step, filled-all, length-paid, paid-at}
 use Rattle.book_settle.proofs.pay_positions.Statement.{statement}
 use Rattle.book_settle.proofs.pay_positions.Tie as tie
 

@@ -8,12 +8,8 @@ use Rattle.book_model.specs.Book.{held, withAccount, withSettlement}
 use Rattle.book_model.specs.Outcome.{Answer, Outcome, Taken, settleCase}
 use Rattle.book_model.specs.Positions.{unitDays, total}
 use Rattle.book_model.specs.Invariant.{OpenSound}
-use Rattle.book_model.proofs.Accepted.{SettleRight}
-use Rattle.account.proofs.Bounds.{fits}
-use Rattle.book_model.proofs.ChangedBook.{Roomy}
-use Rattle.book_model.proofs.Kept.{sound}
-use Rattle.book_model.proofs.Paid.{receipt-most}
-use Rattle.book_model.proofs.Settlements.{taken-right, taken-book, refused-book, put-together}
+use Rattle.book_model.proofs.Callers.{SettleRight, Roomy, sound, receipt-most, taken-right, taken-book, refused-book, put-together}
+use Rattle.account.proofs.Callers.{fits}
 use Rattle.book_settle.proofs.settle.Statement.{statement}
 use Rattle.book_settle.proofs.settle.Tie as tie
 

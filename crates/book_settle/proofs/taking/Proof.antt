@@ -10,7 +10,7 @@ use Rattle.account.specs.declared.Cents.{Cents}
 use Rattle.account.specs.Accrual.{interestOf}
 use Rattle.book_model.specs.Outcome.{Answer, Outcome, Taken, answered}
 use Rattle.book_model.specs.Settle.{takenOf}
-use Rattle.book_model.proofs.Settlements.{unopened, too-much, full, no-day, overpaid, accepted}
+use Rattle.book_model.proofs.Callers.{unopened, too-much, full, no-day, overpaid, accepted}
 use Rattle.book_settle.proofs.taking.Statement.{statement}
 use Rattle.book_settle.proofs.taking.Tie as tie
 

@@ -9,7 +9,7 @@ use lib.Seq.{length-take-le, getD-take, take-at}
 use Rattle.book_model.specs.declared.Position.{Position}
 use Rattle.book_model.specs.Book.{fresh}
 use Rattle.book_model.specs.Positions.{unitDays}
-use Rattle.book_model.proofs.Filled.{filled, filled-step, filled-all, length-filled}
+use Rattle.book_model.proofs.Callers.{filled, filled-step, filled-all, length-filled}
 use Rattle.book_settle.proofs.weights_of.Statement.{statement}
 use Rattle.book_settle.proofs.weights_of.Tie as tie
 

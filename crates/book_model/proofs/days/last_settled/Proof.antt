@@ -9,7 +9,7 @@ use lib.Seq.{take-suc}
 use Rattle.account.specs.declared.Settlement.{Settlement}
 use Rattle.account.specs.Opening.{noSettlement}
 use Rattle.account.specs.Schedule.{lastDay}
-use Rattle.account.proofs.Timeline.{last-joined}
+use Rattle.account.proofs.Callers.{last-joined}
 use Rattle.book_model.proofs.InUse.{take-in-use}
 use Rattle.book_model.proofs.days.last_settled.Statement.{statement}
 use Rattle.book_model.proofs.days.last_settled.Tie as tie

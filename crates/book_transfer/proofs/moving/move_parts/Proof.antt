@@ -8,8 +8,7 @@ use lib.ListN.{getD}
 use Rattle.book_model.specs.Book.{held}
 use Rattle.book_model.specs.Outcome.{noPosition}
 use Rattle.book_model.specs.Positions.{place, present}
-use Rattle.book_model.proofs.Places.{found-at, found-nothing}
-use Rattle.book_model.proofs.Transfers.{Cedent, held-count, share-most, moved-none, moved-over, moved-full, moved-last, moved-between}
+use Rattle.book_model.proofs.Callers.{found-at, found-nothing, Cedent, held-count, share-most, moved-none, moved-over, moved-full, moved-last, moved-between}
 use Rattle.book_transfer.proofs.moving.move_parts.Statement.{statement}
 use Rattle.book_transfer.proofs.moving.move_parts.Tie as tie
 
