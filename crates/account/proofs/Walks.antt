@@ -9,12 +9,13 @@ use lib.Dec.{ltb}
 use lib.ListN.{length, take, drop, getD}
 use Rattle.account.specs.declared.Account.{Account}
 use Rattle.account.specs.declared.RateOrder.{RateOrder}
+use Rattle.account.specs.declared.accrual.Elapsed.{Elapsed}
 use Rattle.account.specs.Accrual.{accruedDays}
 use Rattle.account.specs.Invariant.{Bounded}
 use Rattle.account.specs.Opening.{noOrder}
 use Rattle.account.specs.Ranges.{isNext, isRising, isSchedule}
 use Rattle.account.specs.Schedule.{storedOn}
-use Rattle.account.specs.Walk.{elapsed, Come, Gone}
+use Rattle.account.specs.Walk.{elapsed, Come, Gone, Went}
 use Rattle.account.proofs.Bounds.{bounded-days}
 use Rattle.account.proofs.Cases.{both-true, by-test, true-not-false}
 use Rattle.account.proofs.RangeTests.{schedule-says, next-wrong, next-right}
@@ -74,3 +75,13 @@ module _ (n : ℕ) (rs : List RateOrder) (room : n ≤ length rs) (at day : ℕ)
         bounded = subst (Bounded end) (sym e) (bounded-to day end _ now (come .low) lt h);
         is-elapsed = λ s. e ∙ segment n rs at from day end before now (schedule-says _ s .1) room (holding s) until le lt (is s);
       }
+
+  -- the same, of what `hold` gives
+  pub went : (before now : Account) (from end : ℕ) → from ≤ day → day ≤ end → (at + 1 < n → end ≤ getD rs (at + 1) noOrder .first .0)
+      → Bounded day now → (isSchedule (take n rs) ≡ true → now ≡ elapsed (storedOn (take n rs)) from (day - from) before)
+      → (r : Elapsed) → r .account ≡ accruedDays (end - day) (getD rs at noOrder .daily) now → (r .at ≡ at) × (r .ordered ≡ true)
+      → Went n rs before from end r
+  went before now from end le lt until h is r e same = (
+    λ _. subst (Gone n rs before from end (r .account)) (sym (same .0)) (gone before now (r .account) from end le lt until h is e),
+    λ f. true-not-false (r .ordered) (same .1) f,
+  )

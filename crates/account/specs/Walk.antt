@@ -1,11 +1,12 @@
 -- The walk over orders and settlements: what it gives, and what holds on its way. Private contracts alone cite it.
 use Prim.Native.Nat.{ℕ, zero, suc, _+_, _-_, _≤_, _<_}
 use mathlib.Core.Path.{_≡_}
-use mathlib.Core.Bool.{true}
+use mathlib.Core.Bool.{true, false}
 use mathlib.Core.List.{List}
 use lib.ListN.{take, drop, getD}
 use Rattle.account.specs.declared.Account.{Account}
 use Rattle.account.specs.declared.RateOrder.{RateOrder}
+use Rattle.account.specs.declared.accrual.Elapsed.{Elapsed}
 use Rattle.account.specs.Accrual.{accruedDay}
 use Rattle.account.specs.Invariant.{Bounded}
 use Rattle.account.specs.Opening.{noOrder}
@@ -32,3 +33,8 @@ pub record Gone (n : ℕ) (orders : List RateOrder) (before : Account) (from end
   pub come : Come n orders at end
   pub bounded : Bounded end after
   pub is-elapsed : isSchedule (take n orders) ≡ true → after ≡ elapsed (storedOn (take n orders)) from (end - from) before
+
+-- what such a walk gives: it went all the way, or the orders on the way are no schedule
+abbrev pub Went : (n : ℕ) (orders : List RateOrder) (before : Account) (from end : ℕ) → Elapsed → Type 0
+Went n orders before from end r =
+    (r .ordered ≡ true → Gone n orders before from end (r .account) (r .at)) × (r .ordered ≡ false → isSchedule (take n orders) ≡ false)

@@ -1,13 +1,11 @@
 // Interest accrues by days.
 ghost use mathlib.Core.Path.{_≡_};
-ghost use mathlib.Core.Bool.{true, false};
-ghost use Prim.Native.Nat.{_≤_};
-ghost use lib.ListN.{take};
+ghost use mathlib.Core.Bool.{true};
+ghost use Prim.Native.Nat.{_-_, _≤_};
 ghost use Rattle.account.specs.Accrual.{accruedDays};
 ghost use Rattle.account.specs.Reckoning.{accrued};
 ghost use Rattle.account.specs.Invariant.{Fits, Bounded};
-ghost use Rattle.account.specs.Ranges.{isSchedule};
-ghost use Rattle.account.specs.Walk.{Come, Gone};
+ghost use Rattle.account.specs.Walk.{Come, Went};
 use crate::Account;
 use crate::Day;
 use crate::RateOrder;
@@ -59,6 +57,21 @@ pub struct Elapsed {
     pub ordered: bool,
 }
 
+// The days from `from` up to `end`, all at the order at place `at`.
+pub fn hold(account: Account, order: RateOrder, at: usize, from: Day, end: Day) -> Elapsed
+    requires { ⌜ Bounded (from .0) account ⌝ }
+    requires { ⌜ (from .0 ≤ end .0) × (end .0 ≤ 6000) × (order .daily ≤ 1074597) ⌝ }
+    ensures { λ r. ⌜ r .account ≡ accruedDays (end .0 - from .0) (order .daily) account ⌝ }
+    ensures { λ r. ⌜ (r .at ≡ at) × (r .ordered ≡ true) ⌝ }
+{
+    let days = end.0 - from.0;
+    Elapsed {
+        account: accrue_days(account, order.daily, Day(days)),
+        at: at,
+        ordered: true,
+    }
+}
+
 // The interest of the days from `from` up to `end`, order by order, each tested as the walk comes to it; the order at `place` holds up to `from`.
 pub fn elapse(
     account: Account,
@@ -71,8 +84,7 @@ pub fn elapse(
     requires { ⌜ Bounded (from .0) account ⌝ }
     requires { ⌜ (from .0 ≤ end .0) × (end .0 ≤ 6000) × (rated ≤ 16) ⌝ }
     requires { ⌜ Come rated rates place (from .0) ⌝ }
-    ensures { λ r. ⌜ (r .ordered ≡ true → Gone rated rates account (from .0) (end .0) (r .account) (r .at)) ⌝ }
-    ensures { λ r. ⌜ (r .ordered ≡ false → isSchedule (take rated rates) ≡ false) ⌝ }
+    ensures { λ r. ⌜ Went rated rates account (from .0) (end .0) r ⌝ }
 {
     let mut next = account;
     let mut at = place;
@@ -95,10 +107,5 @@ pub fn elapse(
         at += 1;
     }
     let order = rates[at];
-    let days = end.0 - day.0;
-    Elapsed {
-        account: accrue_days(next, order.daily, Day(days)),
-        at: at,
-        ordered: true,
-    }
+    hold(next, order, at, day, end)
 }

@@ -10,6 +10,7 @@ use crate::RateOrder;
 use crate::Reckoned;
 use crate::Settlement;
 use crate::accrual::elapse;
+use crate::accrual::hold;
 use crate::paying::pay_off;
 use crate::ranges::are_rising;
 use crate::ranges::is_first;
@@ -50,7 +51,12 @@ fn replay_all(
         if today.0 < day.0 {
             return Reckoned::OutOfRange;
         }
-        let passed = elapse(account, rates, rated, at, from, day);
+        let order = rates[at];
+        let mut passed = hold(account, order, at, from, day);
+        // Most settlements have no order on the way to them, and the orders need not be handed on.
+        if at + 1 < rated && rates[at + 1].first.0 < day.0 {
+            passed = elapse(account, rates, rated, at, from, day);
+        }
         let ordered = passed.ordered;
         if !ordered {
             return Reckoned::OutOfRange;

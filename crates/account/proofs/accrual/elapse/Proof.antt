@@ -15,7 +15,7 @@ use Rattle.account.specs.Walk.{elapsed, Come}
 use Rattle.account.proofs.Bounds.{fits}
 use Rattle.account.proofs.Cases.{true-not-false}
 use Rattle.account.proofs.Segments.{elapsed-none}
-use Rattle.account.proofs.Walks.{no-next, come-next, gone}
+use Rattle.account.proofs.Walks.{no-next, come-next, gone, went}
 use Rattle.account.proofs.accrual.elapse.Statement.{statement}
 use Rattle.account.proofs.accrual.elapse.Tie as tie
 
@@ -46,9 +46,6 @@ by-change c = c .before .before
 
 abbrev by-days : tie.After-struct-known3 Inv-loop μ-loop → tie.After-change Inv-loop μ-loop
 by-days c = c .before .before
-
-abbrev by-last : tie.After-struct-known5 Inv-loop μ-loop → tie.After-order2 Inv-loop μ-loop
-by-last c = c .before .before
 
 -- the next order is one of the array, and begins before the end
 within : (c : tie.After-order Inv-loop μ-loop) → by-order c .loop .at + 1 < by-order c .before .args .rated
@@ -151,28 +148,21 @@ mul-order-2 c = omega (arith, c .before .loop .inv .2 .within, c .before .before
 array-copy-out-order-2 : tie.Need-array-copy-out-order-2 Inv-loop μ-loop
 array-copy-out-order-2 c = omega (arith, c .before .loop .inv .2 .within, room (c .before .before))
 
-sub-days-2 : tie.Need-sub-days-2 Inv-loop μ-loop
-sub-days-2 c = omega (arith, by-last c .before .before .loop .inv .1)
-
-accrue-days-requires-2 : tie.Need-accrue-days-requires-2 Inv-loop μ-loop
-accrue-days-requires-2 c κs =
-    let l = by-last c .before .before in (
-      fits (l .loop .day .0) (l .loop .next) (omega (arith, l .loop .inv .1, l .before .pre .1 .0 .1)) (l .loop .inv .3),
-      (l .loop .inv .2 .low, omega (arith, l .before .pre .1 .0 .1)),
-    )
+hold-requires : tie.Need-hold-requires Inv-loop μ-loop
+hold-requires c κs =
+    let l = c .before .before in
+    (l .loop .inv .3, (l .loop .inv .1, l .before .pre .1 .0 .1, l .loop .inv .2 .low))
 
 returns-2 : tie.Need-returns-2 Inv-loop μ-loop
 returns-2 c =
-    let o = by-last (c .before) in
+    let o = c .before in
     let l = o .before .before in
     let s = l .before in
     let until : l .loop .at + 1 < s .args .rated → s .args .end .0 ≤ getD (s .args .t2) (l .loop .at + 1) noOrder .first .0 =
-    λ lt. ⊎-elim (λ w. ltb-false _ _ (w .2 .left)) (λ w. absurd (omega (arith, w .left))) (o .before .loop-test .came) in (
-      λ _. gone (s .args .rated) (s .args .t2) (room s) (l .loop .at) (l .loop .day .0) (l .loop .inv .2) (s .args .account) (l .loop .next)
-          (c .«accrue-days2» .result) (s .args .from .0) (s .args .end .0) (l .loop .inv .0) (l .loop .inv .1) until (l .loop .inv .3) (l .loop .inv .4)
-          (c .«accrue-days2» .ensures),
-      λ e. true-not-false true refl e,
-    )
+    λ lt. ⊎-elim (λ w. ltb-false _ _ (w .2 .left)) (λ w. absurd (omega (arith, w .left))) (o .before .loop-test .came) in
+    went (s .args .rated) (s .args .t2) (room s) (l .loop .at) (l .loop .day .0) (l .loop .inv .2) (s .args .account) (l .loop .next) (s .args .from .0)
+    (s .args .end .0) (l .loop .inv .0) (l .loop .inv .1) until (l .loop .inv .3) (l .loop .inv .4) (c .hold .result) (c .hold .ensures .0)
+    (c .hold .ensures .1)
 
 pub elapse-spec : {M : Type 1} → statement M
 elapse-spec =
@@ -199,6 +189,5 @@ elapse-spec =
     loop-again
     mul-order-2
     array-copy-out-order-2
-    sub-days-2
-    accrue-days-requires-2
+    hold-requires
     returns-2)
