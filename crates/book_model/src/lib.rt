@@ -171,29 +171,14 @@ impl Book {
     // The most positions, settlements and stored rates, and the most days from one settlement to the next.
     pub const POSITIONS: usize = 64;
 
-    pub const SETTLEMENTS: usize = 240;
+    pub const SETTLEMENTS: usize = Account::SETTLEMENTS;
 
-    pub const RATES: usize = 16;
+    pub const RATES: usize = Account::RATES;
 
     pub const SETTLEMENT_DAYS: u32 = 92;
 
-    // The longest term, in days.
-    pub const LONGEST_TERM: u32 = 6000;
-
-    // The latest date that a right begins on.
-    pub const LAST_FIRST_DAY: u32 = 20991231;
-
-    // The most cents that a right is recognised with.
-    pub const GREATEST_RECOGNISED: u64 = 1000000000000;
-
-    // The most cents of one settlement.
-    pub const GREATEST_PAYMENT: u64 = 100000000000;
-
     // The greatest number of a holder.
     pub const GREATEST_HOLDER: u32 = 999999999;
-
-    // The parts of the whole right.
-    pub const WHOLE: u64 = 1000000;
 
     pub fn empty() -> Book
         ensures { λ r. ⌜ r ≡ emptyBook ⌝ }

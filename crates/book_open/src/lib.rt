@@ -19,6 +19,18 @@ use book_model::Refusal;
 use book_model::daily_rate;
 use book_model::is_holder;
 
+// The longest term, in days.
+const LONGEST_TERM: u32 = Account::DAYS;
+
+// The latest date that a right begins on.
+const LAST_FIRST_DAY: u32 = 20991231;
+
+// The most cents that a right is recognised with.
+const GREATEST_RECOGNISED: u64 = Account::CENTS;
+
+// The parts of the whole right.
+const WHOLE: u64 = 1000000;
+
 fn refused(book: Book, refusal: Refusal) -> Opened
     ensures { λ r. ⌜ openStated r ≡ refuse nothing book refusal ⌝ }
 {
@@ -34,10 +46,10 @@ fn is_term(first: u32, term: Day) -> bool
     if term.0 < 1 {
         return false;
     }
-    if Book::LONGEST_TERM < term.0 {
+    if LONGEST_TERM < term.0 {
         return false;
     }
-    first <= Book::LAST_FIRST_DAY
+    first <= LAST_FIRST_DAY
 }
 
 fn is_recognised(cents: Cents) -> bool
@@ -46,7 +58,7 @@ fn is_recognised(cents: Cents) -> bool
     if cents.0 == 0 {
         return false;
     }
-    cents.0 <= Book::GREATEST_RECOGNISED
+    cents.0 <= GREATEST_RECOGNISED
 }
 
 fn all_holders(holders: &[u32]) -> bool
@@ -139,7 +151,7 @@ fn is_financing(holders: &[u32], shares: &[u32]) -> bool
     if !all_shares(shares) {
         return false;
     }
-    total_of(shares).0 == Book::WHOLE
+    total_of(shares).0 == WHOLE
 }
 
 // The positions of the holders, in their order.

@@ -22,6 +22,9 @@ use book_model::Settled;
 use book_model::Settlement;
 use book_model::last_settled;
 
+// The most cents of one settlement.
+const GREATEST_PAYMENT: u64 = 100000000000;
+
 // What a reached book asks of its account is never out of range.
 fn pay(account: Account, cents: Cents) -> Account
     requires { ⌜ Fits account ⌝ }
@@ -118,7 +121,7 @@ fn taking(book: Book, cents: Cents) -> SettleAnswer
     if !opened {
         return SettleAnswer::Refused(Refusal::Unopened);
     }
-    if Book::GREATEST_PAYMENT < cents.0 {
+    if GREATEST_PAYMENT < cents.0 {
         return SettleAnswer::Refused(Refusal::Amount);
     }
     if Book::SETTLEMENTS <= book.settled {
