@@ -6,6 +6,7 @@ use mathlib.Core.Path.{_≡_, refl, subst}
 use mathlib.Core.Bool.{cond}
 use mathlib.Core.List.{List, [], _∷_}
 use lib.Dec.{leb}
+use Rattle.general_laws.proofs.Choice.{choice}
 use Rattle.account.specs.declared.Account.{Account}
 use Rattle.account.specs.declared.RateOrder.{RateOrder}
 use Rattle.account.specs.Accrual.{accruedDay, accruedDays, paidOff, worth}
@@ -13,7 +14,6 @@ use Rattle.account.specs.Opening.{opening}
 use Rattle.account.specs.Schedule.{inForce, storedOn}
 use Rattle.account.specs.Invariant.{Fits, Bounded, Moderate}
 use Rattle.account.specs.Walk.{elapsed}
-use Rattle.account.proofs.Cases.{choice}
 
 -- Bounded holds of an opening, and is kept
 

@@ -1,7 +1,5 @@
 -- What callers may cite of this crate, by the file that proves it.
 
--- One turn of a loop that reads the first n elements of an array: what remains from the next index on.
-pub use Rattle.account.proofs.Turns.{none-remains, remains}
 -- The figures of an account stay within bounds: at most 107,459,701 cents of interest a day, and no principal but the first.
 pub use Rattle.account.proofs.Bounds.{bounded-elapsed, bounded-opening, bounded-paid, elapsed-outstanding, elapsed-principal-paid, fits, paid-principal-kept, stored-most}
 -- While one order holds, the days are days at its rate.

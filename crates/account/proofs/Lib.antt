@@ -1,6 +1,4 @@
 -- Facts about the definitions.
-pub mod Cases
-pub mod Turns
 pub mod ClosedForm
 pub mod Bounds
 pub mod Segments

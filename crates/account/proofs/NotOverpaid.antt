@@ -7,6 +7,7 @@ use mathlib.Core.List.{List, [], _∷_, _++_}
 use mathlib.Core.Option.{Option, none, some}
 use borrow.Author.Tests.{ltb-false, le-ltb, eqb-true}
 use lib.Dec.{ltb, eqb}
+use Rattle.general_laws.proofs.Choice.{neither-true}
 use Rattle.account.specs.declared.Account.{Account}
 use Rattle.account.specs.declared.Settlement.{Settlement}
 use Rattle.account.specs.Accrual.{accruedDay, worth}
@@ -16,7 +17,6 @@ use Rattle.account.specs.Schedule.{lastDay}
 use Rattle.account.specs.Standing.{settledOn, payingOff, dayBegins, accountAt, isOver, some-of, overpaid}
 use Rattle.account.proofs.AccountSteps.{account-begins, begins-joined}
 use Rattle.account.proofs.Bounds.{paid-principal-kept}
-use Rattle.account.proofs.Cases.{neither-true}
 use Rattle.account.proofs.SettledDays.{last-least}
 
 abbrev principal : Account → ℕ

@@ -4,9 +4,11 @@ use native.Mathlib.Omega.{arith}
 use mathlib.Core.Path.{_≡_, refl, ap, _∙_}
 use mathlib.Core.Bool.{true, false, _&&_}
 use mathlib.Core.List.{List, [], _∷_}
-use borrow.Author.Tests.{ltb-true, leb-true, eqb-true, lt-ltb, le-ltb, le-leb, lt-leb, eq-eqb, ne-eqb}
-use lib.Dec.{leb, ltb, eqb}
+use borrow.Author.Tests.{ltb-true, leb-true, eqb-true, lt-ltb, le-ltb, le-leb, eq-eqb}
+use lib.Dec.{ltb, eqb}
 use lib.ListN.{length, take, drop, getD}
+use Rattle.general_laws.proofs.Choice.{both-true, by-test}
+use Rattle.general_laws.proofs.Fronts.{remains, none-remains}
 use Rattle.account.specs.declared.Account.{Account}
 use Rattle.account.specs.declared.RateOrder.{RateOrder}
 use Rattle.account.specs.declared.Settlement.{Settlement}
@@ -14,9 +16,7 @@ use Rattle.account.specs.Ranges.{isAccount, isFirst, isNext, isRising, i
 use Rattle.account.specs.Opening.{noOrder, noSettlement}
 use Rattle.account.specs.Invariant.{Fits, Moderate, Rising, FromStart, Timely}
 use Rattle.account.specs.Walk.{Come}
-use Rattle.account.proofs.Cases.{both-true, by-test}
 use Rattle.account.proofs.Timeline.{timely-most}
-use Rattle.account.proofs.Turns.{remains, none-remains}
 
 -- an account
 

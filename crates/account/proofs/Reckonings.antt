@@ -5,6 +5,7 @@ use mathlib.Core.Bool.{true, false}
 use mathlib.Core.List.{List}
 use borrow.Author.Tests.{lt-ltb, le-ltb}
 use lib.ListN.{take}
+use Rattle.general_laws.proofs.Choice.{by-test}
 use Rattle.account.specs.declared.Account.{Account}
 use Rattle.account.specs.declared.RateOrder.{RateOrder}
 use Rattle.account.specs.declared.Reckoned.{Reckoned}
@@ -14,7 +15,6 @@ use Rattle.account.specs.Accrual.{accruedDays, paidOff, worth}
 use Rattle.account.specs.Ranges.{isAccount, isSchedule, isTimely}
 use Rattle.account.specs.Reckoning.{accrued, paid, standing, replayed}
 use Rattle.account.specs.Schedule.{storedOn}
-use Rattle.account.proofs.Cases.{by-test}
 
 module _ (a : Account) where
   module _ (d n : ℕ) where

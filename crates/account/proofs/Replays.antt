@@ -9,6 +9,7 @@ use borrow.Author.Tests.{ne-eqb, lt-ltb, le-ltb}
 use lib.Dec.{ltb}
 use lib.ListN.{length, take, drop, getD}
 use lib.Seq.{append-snoc}
+use Rattle.general_laws.proofs.Fronts.{remains, none-remains}
 use Rattle.account.specs.declared.Account.{Account}
 use Rattle.account.specs.declared.Settlement.{Settlement}
 use Rattle.account.specs.declared.Reckoned.{Reckoned}
@@ -21,7 +22,6 @@ use Rattle.account.specs.Reckoning.{standing}
 use Rattle.account.specs.Standing.{settledOn, dayBegins, accountAt, isOver, some-of, overpaid}
 use Rattle.account.proofs.AccountSteps.{begins-same, account-elapsed, account-paid-off}
 use Rattle.account.proofs.SettledDays.{none-yet, settled-first, settled-other}
-use Rattle.account.proofs.Turns.{remains, none-remains}
 
 -- what is left of a replay: the settlements to come, from an account on a day
 unfoldable pub replayFrom : (ℕ → ℕ) → Account → ℕ → List Settlement → ℕ → Reckoned

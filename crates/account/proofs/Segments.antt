@@ -14,7 +14,7 @@ use Rattle.account.specs.declared.RateOrder.{RateOrder}
 use Rattle.account.specs.Opening.{noOrder}
 use Rattle.account.specs.Schedule.{inForce, storedOn}
 use Rattle.account.specs.Accrual.{accruedDays}
-use Rattle.account.specs.Invariant.{Moderate, Rising, FromStart}
+use Rattle.account.specs.Invariant.{Rising, FromStart}
 use Rattle.account.specs.Walk.{elapsed}
 
 -- of n orders the one at a place holds up to a day: it has begun, and the next begins no earlier; it may begin on that day

@@ -7,11 +7,11 @@ use mathlib.Core.List.{List, [], _∷_, _++_}
 use mathlib.Core.Option.{Option, none, some}
 use borrow.Author.Tests.{eqb-true, eqb-false, eq-eqb, ne-eqb}
 use lib.Dec.{eqb}
+use Rattle.general_laws.proofs.Choice.{by-test}
 use Rattle.account.specs.declared.Settlement.{Settlement}
 use Rattle.account.specs.Invariant.{Timely}
 use Rattle.account.specs.Schedule.{lastDay}
 use Rattle.account.specs.Standing.{settledOn}
-use Rattle.account.proofs.Cases.{by-test}
 use Rattle.account.proofs.Timeline.{last-within}
 
 -- Settlements that follow one another

@@ -6,18 +6,18 @@ use mathlib.Core.Bool.{true, false}
 use mathlib.Core.List.{List}
 use borrow.Author.Tests.{ltb-true, leb-true}
 use lib.Dec.{ltb}
-use lib.ListN.{length, take, drop, getD}
+use lib.ListN.{length, take, getD}
+use Rattle.general_laws.proofs.Choice.{both-true, by-test, true-not-false}
 use Rattle.account.specs.declared.Account.{Account}
 use Rattle.account.specs.declared.RateOrder.{RateOrder}
 use Rattle.account.specs.declared.accrual.Elapsed.{Elapsed}
 use Rattle.account.specs.Accrual.{accruedDays}
 use Rattle.account.specs.Invariant.{Bounded}
 use Rattle.account.specs.Opening.{noOrder}
-use Rattle.account.specs.Ranges.{isNext, isRising, isSchedule}
+use Rattle.account.specs.Ranges.{isNext, isSchedule}
 use Rattle.account.specs.Schedule.{storedOn}
 use Rattle.account.specs.Walk.{elapsed, Come, Gone, Went}
 use Rattle.account.proofs.Bounds.{bounded-days}
-use Rattle.account.proofs.Cases.{both-true, by-test, true-not-false}
 use Rattle.account.proofs.RangeTests.{schedule-says, next-wrong, next-right}
 use Rattle.account.proofs.Segments.{Holding, segment}
 

@@ -1,14 +1,14 @@
 -- The answer in each case: what is refused, and what is divided.
 use Prim.Native.Nat.{ℕ, _≤_, _<_}
 use native.Mathlib.Omega.{arith}
-use mathlib.Core.Path.{_≡_, refl, sym}
+use mathlib.Core.Path.{_≡_, refl}
 use mathlib.Core.List.{List}
-use lib.ListN.{length, take}
+use lib.ListN.{take}
 use borrow.Author.Tests.{lt-ltb, le-ltb, eq-eqb, ne-eqb}
+use Rattle.general_laws.proofs.Choice.{by-order}
 use Rattle.apportionment.specs.declared.Division.the-variants.{Divided, Count, Amount, Weight}
 use Rattle.apportionment.specs.Apportionment.{totalWeight, part, padded, refusedBy, apportioned}
-use Rattle.apportionment.specs.Steps.{cappedTotal, Whole}
-use Rattle.apportionment.proofs.Cases.{by-order}
+use Rattle.apportionment.specs.Steps.{cappedTotal}
 
 -- Properties of cappedTotal
 

@@ -8,11 +8,13 @@ use mathlib.Core.List.{List, [], _∷_}
 use lib.Dec.{ltb}
 use lib.ListN.{length}
 use borrow.Author.Tests.{ltb-true, lt-ltb, le-ltb}
-use Rattle.apportionment.specs.Sum.{sumBelow, countBelow}
+use Rattle.general_laws.specs.Sums.{total, sumBelow, countBelow}
+use Rattle.general_laws.proofs.Choice.{by-order}
+use Rattle.general_laws.proofs.Counts.{bit-most, bit-false, count-le}
+use Rattle.general_laws.proofs.Totals.{sum-total}
+use Rattle.general_laws.proofs.Sums.{sum-same, sum-le, sum-lt, sum-add, sum-scale, sum-constant, sum-prefix}
 use Rattle.apportionment.specs.Apportionment.{weight, totalWeight, quotient, remainder, leftover, comesBefore, rank, getsExtra, extra, part}
 use Rattle.apportionment.specs.Laws.{Laws}
-use Rattle.apportionment.proofs.Cases.{by-order, bit-most, bit-false}
-use Rattle.apportionment.proofs.Sums.{sum-same, sum-le, sum-lt, sum-add, sum-scale, sum-constant, sum-prefix, count-le}
 use Rattle.apportionment.proofs.Ranks.{greater-before, exactly}
 
 module _ (m : ℕ) (ws : List ℕ) (some : 0 < totalWeight ws) where
@@ -25,14 +27,17 @@ module _ (m : ℕ) (ws : List ℕ) (some : 0 < totalWeight ws) where
   unfolding remainder
   remainder-small k = mod-lt (m * weight ws k) some
 
-  divisions : totalWeight ws * sumBelow (length ws) (quotient m ws) + sumBelow (length ws) (remainder m ws) ≡ totalWeight ws * m
+  weights-total : sumBelow (length ws) (weight ws) ≡ totalWeight ws
   unfolding totalWeight
+  weights-total = sum-total ws
+
+  divisions : totalWeight ws * sumBelow (length ws) (quotient m ws) + sumBelow (length ws) (remainder m ws) ≡ totalWeight ws * m
   divisions =
       let n = length ws in
       let a = sum-scale n (totalWeight ws) (quotient m ws) in
       let b = sum-add n (λ k. totalWeight ws * quotient m ws k) (remainder m ws) in
       let c = sum-same n (λ k. totalWeight ws * quotient m ws k + remainder m ws k) (λ k. m * weight ws k) (λ k _. division k) in
-      let d = sum-scale n m (weight ws) in
+      let d = sum-scale n m (weight ws) ∙ ap (λ (x : ℕ). m * x) weights-total in
       let e = mul-comm m (totalWeight ws) in
       omega arith
 
@@ -54,10 +59,10 @@ module _ (m : ℕ) (ws : List ℕ) (some : 0 < totalWeight ws) where
       omega (arith, divisions)
 
   positions-some : 0 < length ws
-  unfolding totalWeight sumBelow
+  unfolding totalWeight
   positions-some = go ws some
     where
-      go : (l : List ℕ) → 0 < sumBelow (length l) (weight l) → 0 < length l
+      go : (l : List ℕ) → 0 < total l → 0 < length l
       go [] h = absurd (omega arith)
       go (x ∷ l) h = omega arith
 

@@ -1,6 +1,4 @@
--- Facts about the definitions. `Laws` has what callers cite; the others are what the code's proofs cite.
-pub mod Cases
-pub mod Sums
+-- Facts about the definitions. `Callers` has what other crates cite; `Laws` and `Examples` are what the crate states.
 pub mod Ranks
 pub mod Laws
 pub mod Arrays
@@ -8,3 +6,4 @@ pub mod Whole
 pub mod Threshold
 pub mod Answers
 pub mod Examples
+pub mod Callers

@@ -2,20 +2,20 @@
 use Prim.Native.Nat.{ℕ, zero, suc, _+_, _≤_, _<_}
 use native.Mathlib.Omega.{arith}
 use mathlib.Core.Path.{_≡_, sym, ap, _∙_}
-use mathlib.Core.Bool.{Bool, true, false, cond}
-use lib.Dec.{ltb}
+use mathlib.Core.Bool.{Bool, true, false, cond, _&&_, _||_}
+use lib.Dec.{ltb, eqb}
 use borrow.Author.Tests.{ltb-true, lt-ltb, le-ltb, eq-eqb, ne-eqb}
-use Rattle.apportionment.specs.Sum.{countBelow}
+use Rattle.general_laws.specs.Sums.{countBelow}
+use Rattle.general_laws.proofs.Choice.{by-order, true-not-false, ltb-same}
+use Rattle.general_laws.proofs.Counts.{bit-true, bit-false, count-same, count-le, count-lt, count-suc, count-most}
 use Rattle.apportionment.specs.Apportionment.{comesBefore, rank}
-use Rattle.apportionment.proofs.Cases.{by-order, ltb-same, bit-true, bit-false}
-use Rattle.apportionment.proofs.Sums.{count-same, count-le, count-lt, count-suc, count-most}
 
 -- Properties of comesBefore
 
 module _ (r : ℕ → ℕ) (j k : ℕ) where
   pub greater-before : r k < r j → comesBefore r j k ≡ true
   unfolding comesBefore
-  greater-before h = rw (lt-ltb (r k) (r j) h)
+  greater-before h = ap (λ (t : Bool). t || (eqb (r j) (r k) && ltb j k)) (lt-ltb (r k) (r j) h)
 
   pub equal-before : r j ≡ r k → comesBefore r j k ≡ ltb j k
   unfolding comesBefore
@@ -30,11 +30,8 @@ module _ (r : ℕ → ℕ) (j k : ℕ) where
   before-cases t f g =
       by-order (r k) (r j) f λ le.
       by-order (r j) (r k)
-      (λ lt. let z : _≡_ {A = Bool} true false = sym t ∙ less-not-before lt in absurd (differ z))
+      (λ lt. true-not-false (comesBefore r j k) t (less-not-before lt))
       (λ ge. let e : r j ≡ r k = omega arith in g e (ltb-true j k (sym (equal-before e) ∙ t)))
-    where
-      differ : _≡_ {A = Bool} true false → ⊥
-      differ z = let e : _≡_ {A = ℕ} 0 1 = cc in omega arith
 
   -- an earlier position comes before where its remainder is not less
   pub earlier-before : j < k → r k ≤ r j → comesBefore r j k ≡ true

@@ -8,12 +8,13 @@ use mathlib.Core.List.{List}
 use lib.Dec.{ltb, leb, eqb}
 use lib.ListN.{length, set, List·getD-eq-default}
 use borrow.Author.Tests.{lt-ltb, le-ltb, leb-true, le-leb, lt-leb, eq-eqb, ne-eqb}
-use Rattle.apportionment.specs.Sum.{sumBelow, countBelow, listBelow}
+use Rattle.general_laws.specs.Sums.{sumBelow, countBelow, listBelow}
+use Rattle.general_laws.proofs.Choice.{by-order, ltb-same}
+use Rattle.general_laws.proofs.Counts.{bit-true, bit-false, bit-most, count-le, count-lt, count-suc, count-all, count-none, count-most}
+use Rattle.general_laws.proofs.Lists.{list-length, list-at, list-of, list-set}
+use Rattle.general_laws.proofs.Sums.{sum-same, sum-add, sum-cut, sum-prefix}
 use Rattle.apportionment.specs.Apportionment.{comesBefore, rank}
 use Rattle.apportionment.specs.Steps.{at, above, notBelow, equals, Between, Threshold, raised, withExtra}
-use Rattle.apportionment.proofs.Cases.{by-order, ltb-same, bit-true, bit-false, bit-most}
-use Rattle.apportionment.proofs.Sums.{sum-same, sum-add, sum-cut, sum-prefix, count-le, count-lt, count-suc, count-all, count-none, count-most}
-use Rattle.apportionment.proofs.Arrays.{list-length, list-at, list-of, list-set}
 use Rattle.apportionment.proofs.Ranks.{greater-before, equal-before, less-not-before, later-not-before, before-cases}
 
 -- Properties of equals

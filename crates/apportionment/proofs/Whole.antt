@@ -9,12 +9,14 @@ use lib.Dec.{ltb}
 use borrow.Author.Tests.{lt-ltb, le-ltb}
 use lib.ListN.{length, take}
 use lib.Seq.{length-take-le, getD-take}
-use Rattle.apportionment.specs.Sum.{sumBelow, listBelow}
+use Rattle.general_laws.specs.Sums.{sumBelow, listBelow}
+use Rattle.general_laws.proofs.Choice.{by-order}
+use Rattle.general_laws.proofs.Counts.{bit-false, count-same}
+use Rattle.general_laws.proofs.Lists.{list-same}
+use Rattle.general_laws.proofs.Sums.{sum-suc, sum-prefix}
 use Rattle.apportionment.specs.Apportionment.{totalWeight, quotient, remainder, leftover, comesBefore, rank, getsExtra, part, padded}
 use Rattle.apportionment.specs.Steps.{at, Whole, Divided, withExtra}
-use Rattle.apportionment.proofs.Cases.{by-order, bit-false}
-use Rattle.apportionment.proofs.Sums.{sum-suc, sum-prefix, count-same}
-use Rattle.apportionment.proofs.Arrays.{used-total, list-same, padded-length, padded-at, padded-behind}
+use Rattle.apportionment.proofs.Arrays.{used-total, padded-length, padded-at, padded-behind}
 use Rattle.apportionment.proofs.Laws.{quotients-within, remainder-small, leftover-few}
 
 module _ (m : ℕ) (ws : List ℕ) (n t : ℕ) (whole : Whole m ws n t) where

@@ -5,10 +5,10 @@ use mathlib.Core.Bool.{Bool, cond, _&&_, _||_}
 use mathlib.Core.List.{List}
 use lib.Dec.{ltb, eqb}
 use lib.ListN.{length, getD, take, replicate}
+use Rattle.general_laws.specs.Sums.{total, sumBelow, countBelow, listBelow}
 use Rattle.apportionment.specs.declared.Apportioned.{Apportioned}
 use Rattle.apportionment.specs.declared.Division.{Division}
 use Rattle.apportionment.specs.declared.Division.the-variants.{Divided, Count, Amount, Weight}
-use Rattle.apportionment.specs.Sum.{sumBelow, countBelow, listBelow}
 
 -- w: the weight of position k
 abbrev pub weight : List ℕ → ℕ → ℕ
@@ -16,7 +16,7 @@ weight ws k = getD ws k 0
 
 -- W: the total of the weights
 unfoldable pub totalWeight : List ℕ → ℕ
-totalWeight ws = sumBelow (length ws) (weight ws)
+totalWeight ws = total ws
 
 -- M × w divided by W, rounded down
 unfoldable pub quotient : ℕ → List ℕ → ℕ → ℕ

@@ -1,7 +1,7 @@
 -- The checked examples 6 and 7 of document 01, and the split of example 8.
 use mathlib.Core.Path.{_≡_}
 use mathlib.Core.List.{[], _∷_}
-use Rattle.apportionment.specs.Sum.{listBelow}
+use Rattle.general_laws.specs.Sums.{listBelow}
 use Rattle.apportionment.specs.Apportionment.{part}
 
 pub record Examples : Type 0 where

@@ -3,7 +3,7 @@ use Prim.Native.Nat.{ℕ, _+_, _-_, _*_, _≤_, _<_}
 use mathlib.Core.Path.{_≡_}
 use mathlib.Core.List.{List}
 use lib.ListN.{length}
-use Rattle.apportionment.specs.Sum.{sumBelow, countBelow}
+use Rattle.general_laws.specs.Sums.{sumBelow, countBelow}
 use Rattle.apportionment.specs.Apportionment.{weight, totalWeight, quotient, remainder, leftover, getsExtra, extra, part}
 
 pub record LawsOf (m : ℕ) (ws : List ℕ) : Type 0 where

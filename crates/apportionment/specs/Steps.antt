@@ -5,7 +5,7 @@ use mathlib.Core.Bool.{cond, _&&_}
 use mathlib.Core.List.{List}
 use lib.Dec.{ltb, leb, eqb}
 use lib.ListN.{length, getD, take}
-use Rattle.apportionment.specs.Sum.{countBelow}
+use Rattle.general_laws.specs.Sums.{countBelow}
 use Rattle.apportionment.specs.Apportionment.{totalWeight, quotient, remainder, leftover, rank, padded}
 
 -- the number at a place of an array

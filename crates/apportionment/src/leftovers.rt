@@ -4,7 +4,7 @@ ghost use mathlib.Core.Bool.{cond};
 ghost use Prim.Native.Nat.{ℕ, _≤_, _<_};
 ghost use lib.Dec.{leb};
 ghost use lib.ListN.{length, getD};
-ghost use Rattle.apportionment.specs.Sum.{listBelow};
+ghost use Rattle.general_laws.specs.Sums.{listBelow};
 ghost use Rattle.apportionment.specs.Steps.{above, equals, Between, Threshold, raised, withExtra};
 use crate::POSITIONS;
 

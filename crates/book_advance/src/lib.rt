@@ -1,5 +1,6 @@
 // Advance (document 01): days pass, positions gain unit-days and interest accrues.
 ghost use mathlib.Core.Path.{_≡_};
+ghost use Rattle.general_laws.specs.Sums.{total};
 ghost use Rattle.account.specs.Accrual.{accruedDays};
 ghost use Rattle.account.specs.Invariant.{Fits};
 ghost use mathlib.Core.Bool.{true};
@@ -8,7 +9,7 @@ ghost use Prim.Native.Nat.{_≤_, _<_};
 ghost use lib.ListN.{take, drop};
 ghost use Rattle.book_model.specs.Advance.{advancedTo, advanced};
 ghost use Rattle.book_model.specs.Outcome.{advanceCase, advanceStated};
-ghost use Rattle.book_model.specs.Positions.{shares, unitDays, total};
+ghost use Rattle.book_model.specs.Positions.{shares, unitDays};
 ghost use Rattle.book_model.specs.Reached.{Reached};
 ghost use Rattle.book_model.specs.Invariant.{Sound};
 ghost use Rattle.book_model.specs.Closed.{daysHeld};

@@ -7,6 +7,7 @@ use mathlib.Core.List.{List}
 use borrow.Author.Tests.{eqb-false, leb-true, leb-false, ltb-false, not-true, not-false}
 use lib.Dec.{eqb, leb, ltb}
 use lib.ListN.{length}
+use Rattle.general_laws.proofs.Choice.{choice, both-true, neither-true}
 use Rattle.calendar.specs.Calendar.{isDate, dayCount}
 use Rattle.account.specs.declared.Account.{Account}
 use Rattle.book_model.specs.declared.Book.{Book}
@@ -27,7 +28,6 @@ use Rattle.book_model.specs.Settle.{settledBook, takenOf, settled}
 use Rattle.book_model.specs.Schedule.{dailyOn}
 use Rattle.account.specs.Standing.{accountAt, overpaid}
 use Rattle.book_model.specs.Transfer.{moved, transferred}
-use Rattle.book_model.proofs.Cases.{choice, both-true, neither-true}
 use Rattle.book_model.proofs.Financing.{Financed, financed}
 
 pub no-refusal-is-0 : (r : Refusal) → refusalNumber r ≡ 0 → ⊥

@@ -5,6 +5,7 @@ use mathlib.Core.Path.{_≡_, _∙_}
 use mathlib.Core.Bool.{true}
 use mathlib.Core.List.{map}
 use lib.ListN.{length, length-append, length-drop, length-map}
+use Rattle.general_laws.proofs.Choice.{true-not-false}
 use Rattle.book_model.specs.declared.Book.{Book}
 use Rattle.book_model.specs.Advance.{lastSettled, daysPassed, advanced}
 use Rattle.book_model.specs.Book.{held, ratesOf, settlementsOf, withHeld, withAccount, withToday}
@@ -14,7 +15,6 @@ use Rattle.book_model.specs.Closed.{daysHeld}
 use Rattle.book_model.proofs.Accepted.{daysTo, advance-cases}
 use Rattle.book_model.proofs.RatesInForce.{daily-most}
 use Rattle.account.proofs.Callers.{bounded-elapsed, elapsed-outstanding, elapsed-principal-paid, last-within, timely-later}
-use Rattle.book_model.proofs.Cases.{true-not-false}
 use Rattle.book_model.proofs.ChangedBook.{Roomy, length-held, held-withHeld}
 use Rattle.book_model.proofs.DaysHeld.{holders-days, shares-days, receipts-days, unit-days-grown}
 use Rattle.book_model.proofs.DaysPassed.{passedAtOnce, days-at-once}

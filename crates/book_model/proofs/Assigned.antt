@@ -2,26 +2,25 @@
 use Prim.Native.Nat.{ℕ, suc, _+_, _≤_, _<_}
 use native.Mathlib.Omega.{arith}
 use mathlib.Core.Path.{_≡_, refl, sym, ap, _∙_}
-use mathlib.Core.Bool.{Bool, true, false, cond, not, _||_}
+use mathlib.Core.Bool.{Bool, true, false, cond, _||_}
 use mathlib.Core.List.{List, [], _∷_, _++_, map, map-append}
-use borrow.Author.Tests.{ltb-true, ltb-false, le-ltb, eqb-false, ne-eqb, not-true}
+use borrow.Author.Tests.{ltb-true, ltb-false, le-ltb}
 use lib.Dec.{eqb, ltb}
 use lib.ListN.{length, length-append}
+use Rattle.general_laws.specs.Members.{all, distinct, among}
+use Rattle.general_laws.specs.Sums.{total}
+use Rattle.general_laws.proofs.Choice.{by-test, choice}
+use Rattle.general_laws.proofs.Members.{all-last, distinct-last}
+use Rattle.general_laws.proofs.Totals.{total-last}
 use Rattle.book_model.specs.declared.Position.{Position}
 use Rattle.book_model.specs.Book.{fresh}
-use Rattle.book_model.specs.Open.{all, distinct}
-use Rattle.book_model.specs.Positions.{isHolder, place, present, shareOf, change, less, more, given, shares, unitDays, receipts, holders, total, among}
-use Rattle.book_model.proofs.Cases.{by-test, choice, both-true, neither-true}
+use Rattle.book_model.specs.Positions.{isHolder, place, present, shareOf, change, less, more, given, shares, unitDays, receipts, holders}
 use Rattle.book_model.proofs.Changes.{length-change, map-change, present-change}
-use Rattle.book_model.proofs.ListTotals.{total-append}
 
 abbrev pub assigned : ℕ → ℕ → ℕ → List Position → List Position
 assigned c a n ps = given a n (change c (less n) ps)
 
 -- Shares
-
-total-last : (f : Position → ℕ) (ps : List Position) (p : Position) → total (map f (ps ++ (p ∷ []))) ≡ total (map f ps) + f p
-total-last f ps p = rw (map-append, total-append) (omega arith)
 
 pub shares-less : (c n : ℕ) (ps : List Position) → n ≤ shareOf c ps → total (shares (change c (less n) ps)) + n ≡ total (shares ps)
 shares-less c n [] e = omega arith
@@ -71,22 +70,6 @@ absent-among a (p ∷ ps) e = go (eqb (p .holder) a) (absent-among a ps) e
         → t || among a (holders ps) ≡ false
     go true ih q = absurd (omega (arith, ltb-false 0 (suc (length ps)) q))
     go false ih q = ih (le-ltb (place a ps) (length ps) (omega (arith, ltb-false (suc (place a ps)) (suc (length ps)) q)))
-
-pub all-last : (t : ℕ → Bool) (ns : List ℕ) (n : ℕ) → all t ns ≡ true → t n ≡ true → all t (ns ++ (n ∷ [])) ≡ true
-all-last t [] n e f = rw f
-all-last t (m ∷ ns) n e f = let h = both-true (t m) (all t ns) e in rw (h .0) (all-last t ns n (h .1) f)
-
-pub among-last : (m : ℕ) (ns : List ℕ) (n : ℕ) → among m ns ≡ false → eqb n m ≡ false → among m (ns ++ (n ∷ [])) ≡ false
-among-last m [] n e f = rw f
-among-last m (k ∷ ns) n e f = let h = neither-true (eqb k m) (among m ns) e in rw (h .0) (among-last m ns n (h .1) f)
-
-pub distinct-last : (ns : List ℕ) (n : ℕ) → distinct ns ≡ true → among n ns ≡ false → distinct (ns ++ (n ∷ [])) ≡ true
-distinct-last [] n e f = refl
-distinct-last (m ∷ ns) n e f =
-    let h = both-true (not (among m ns)) (distinct ns) e in
-    let g = neither-true (eqb m n) (among n ns) f in
-    let other : n ≡ m → ⊥ = λ q. eqb-false m n (g .0) (sym q) in
-    rw (among-last m ns n (not-true (among m ns) (h .0)) (ne-eqb n m other)) (distinct-last ns n (h .1) (g .1))
 
 -- the holders after n parts more for one: the same, or with a new one last
 module _ (a n : ℕ) (ps : List Position) where

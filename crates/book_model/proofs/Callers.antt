@@ -1,17 +1,13 @@
 -- What callers may cite of this crate, by the file that proves it.
 
--- An array whose places are filled one by one, from the front, with the elements of a list.
-pub use Rattle.book_model.proofs.Filled.{filled, filled-all, filled-at, filled-step, length-filled, withArray}
--- Proofs by cases of a test or of an order, and what two tests together say: from the crates that have them.
-pub use Rattle.book_model.proofs.Cases.{both-true, by-order, by-test, choice, neither-true, true-not-false}
+-- The book with another array of positions.
+pub use Rattle.book_model.proofs.Filled.{withArray}
 -- A book's positions in use after others replace them.
 pub use Rattle.book_model.proofs.ChangedBook.{Roomy, length-held}
 -- What a caller shows: the book that a call gave back is reached.
 pub use Rattle.book_model.proofs.CallsReach.{advance-reached, call-reached, open-reached, rate-reached, settle-reached, transfer-reached}
 -- Days passed one by one are days passed at once.
 pub use Rattle.book_model.proofs.DaysPassed.{days-at-once, daysHeld-at}
--- Totals of lists of numbers.
-pub use Rattle.book_model.proofs.ListTotals.{total-append, total-most-of, weight-total}
 -- Positions that are paid, each by its place, and the book after a settlement.
 pub use Rattle.book_model.proofs.Paid.{length-paid, paid-at, paid-by-parts, parts-most, receipt-most, receipts-settled}
 -- The positions of an opening: one for each holder, in order, with its share and nothing else yet.
@@ -25,13 +21,11 @@ pub use Rattle.book_model.proofs.Accepted.{AdvanceRight, SettleRight, T
 -- Where a holder stands among positions, and what a search for it found.
 pub use Rattle.book_model.proofs.Places.{found-at, found-nothing}
 -- Positions after parts of a share went from a cedent to an assignee: what stays the same.
-pub use Rattle.book_model.proofs.Assigned.{assigned, distinct-last, receipts-kept}
+pub use Rattle.book_model.proofs.Assigned.{assigned, receipts-kept}
 -- The cases of Transfer.
 pub use Rattle.book_model.proofs.Transfers.{Cedent, held-count, moved-between, moved-full, moved-last, moved-none, moved-over, share-most, transfer-assignee, transfer-cedent, transfer-other, transfer-same, transfer-unknown, transfer-unopened}
 -- Every reached book is sound.
 pub use Rattle.book_model.proofs.Kept.{empty-sound, sound}
--- What is asked of a list from a place on, told from the element there and the rest: for loops that go through a list.
-pub use Rattle.book_model.proofs.Asked.{all-failed, all-passed, among-here, among-later, distinct-failed, distinct-passed, total-step}
 -- What each accepted call changes, and what it leaves.
 pub use Rattle.book_model.proofs.Steps.{AdvanceStep, OpenStep, SameRight, SettleStep, TransferStep, advance-step, open-step, settle-step, transfer-step}
 -- The cases of Settle: what is refused, in the order of document 01's table, and what is accepted.
@@ -46,3 +40,6 @@ pub use Rattle.book_model.proofs.RateOrders.{annual-opened, rate-sets-f
 pub use Rattle.book_model.proofs.StandingKept.{Standing, standing}
 -- Stored rates follow one another by first day, so those that start before a day are the first ones, and an order may follow them.
 pub use Rattle.book_model.proofs.StoredRates.{count-most, from-start-with, length-with, priced-with, stored, stored-in-use}
+-- General laws, for the crates above that do not cite them by name.
+pub use Rattle.general_laws.proofs.Choice.{both-true, by-order, by-test, choice, neither-true, true-not-false}
+pub use Rattle.general_laws.proofs.Totals.{total-most-of}

@@ -1,13 +1,11 @@
--- One holder's position changed: the list's length, places and figures, and the store in an array that makes the change.
-use Prim.Native.Nat.{ℕ, suc, _+_, _<_}
+-- One holder's position changed: the list's length, places and figures, and the store that makes the change.
+use Prim.Native.Nat.{ℕ, suc, _<_}
 use native.Mathlib.Omega.{arith}
-use native.Mathlib.Numerals.{add-one}
 use mathlib.Core.Path.{_≡_, refl, ap}
 use mathlib.Core.Bool.{Bool, true, false, cond}
-use mathlib.Core.List.{List, [], _∷_, _++_, map}
+use mathlib.Core.List.{List, [], _∷_, map}
 use lib.Dec.{eqb}
-use lib.ListN.{length, take, drop, getD, set, take-append-drop, length-set}
-use lib.Seq.{take-set-lt, drop-set-lt, set-split, append-snoc}
+use lib.ListN.{length, getD, set}
 use Rattle.book_model.specs.declared.Position.{Position}
 use Rattle.book_model.specs.Positions.{place, present, change}
 
@@ -51,18 +49,3 @@ module _ (h : ℕ) (f : Position → Position) where
 
     pub present-change : (ps : List Position) → present a (change h f ps) ≡ present a ps
     present-change ps = rw (place-change ps, length-change ps)
-
--- Stores among the first n places of an array, the rest of it unchanged
-
-module _ {A : Type 0} (n : ℕ) (l : List A) (i : ℕ) (x : A) (lt : i < n) where
-  pub two-stored : (j : ℕ) (y : A) → j < n → set (set (take n l) i x) j y ++ drop n l ≡ set (set l i x) j y
-  two-stored j y below =
-      rw (← take-set-lt n l i x lt, ← take-set-lt n (set l i x) j y below, ← drop-set-lt n l i x lt, ← drop-set-lt n (set l i x) j y below)
-      (take-append-drop n (set (set l i x) j y))
-
-  -- and one at the next place
-  pub next-stored : (y : A) → n < length l → (set (take n l) i x ++ (y ∷ [])) ++ drop (n + 1) l ≡ set (set l i x) n y
-  next-stored y room =
-      let room′ : n < length (set l i x) = rw length-set room in
-      let lt′ : i < suc n = omega arith in
-      rw (set-split (set l i x) n y room′, take-set-lt n l i x lt, drop-set-lt (suc n) l i x lt′, add-one n, append-snoc)

@@ -4,8 +4,9 @@ use native.Mathlib.Omega.{arith}
 use native.Mathlib.Nat.{add-mul}
 use mathlib.Core.Path.{_≡_, refl, ap}
 use mathlib.Core.List.{List, [], _∷_, map}
+use Rattle.general_laws.specs.Sums.{total}
 use Rattle.book_model.specs.declared.Position.{Position}
-use Rattle.book_model.specs.Positions.{holders, shares, unitDays, receipts, total}
+use Rattle.book_model.specs.Positions.{holders, shares, unitDays, receipts}
 use Rattle.book_model.specs.Closed.{daysHeld}
 
 module _ (n : ℕ) where

@@ -7,9 +7,11 @@ use mathlib.Core.List.{List}
 use lib.Dec.{eqb}
 use lib.ListN.{length}
 use borrow.Author.Tests.{leb-true, eqb-true, le-leb, lt-leb, eq-eqb, ne-eqb}
-use Rattle.book_model.specs.Open.{all, distinct, isShare, isFinancing}
-use Rattle.book_model.specs.Positions.{isHolder, total}
-use Rattle.book_model.proofs.Cases.{both-true}
+use Rattle.general_laws.specs.Members.{all, distinct}
+use Rattle.general_laws.specs.Sums.{total}
+use Rattle.general_laws.proofs.Choice.{both-true}
+use Rattle.book_model.specs.Open.{isShare, isFinancing}
+use Rattle.book_model.specs.Positions.{isHolder}
 
 pub record Financed (hs ss : List ℕ) : Type 0 where
   pub one-length : length hs ≡ length ss

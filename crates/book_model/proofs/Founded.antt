@@ -4,9 +4,10 @@ use native.Mathlib.Omega.{arith}
 use mathlib.Core.Path.{_≡_, refl, ap}
 use mathlib.Core.List.{List, [], _∷_}
 use lib.ListN.{length, getD}
+use Rattle.general_laws.specs.Sums.{total}
 use Rattle.book_model.specs.Book.{fresh}
 use Rattle.book_model.specs.Open.{founded}
-use Rattle.book_model.specs.Positions.{holders, shares, unitDays, receipts, total}
+use Rattle.book_model.specs.Positions.{holders, shares, unitDays, receipts}
 
 pub length-founded : (hs ss : List ℕ) → length hs ≡ length ss → length (founded hs ss) ≡ length hs
 length-founded [] ss e = refl

@@ -4,8 +4,9 @@ use native.Mathlib.Omega.{arith}
 use mathlib.Core.Path.{_≡_, refl, _∙_}
 use mathlib.Core.Bool.{false}
 use lib.ListN.{length, getD, List·getD-eq-default, List·getD-map}
+use Rattle.apportionment.proofs.Callers.{nothing-for-none, weight-total}
+use Rattle.general_laws.proofs.Choice.{by-order, true-not-false}
 use Rattle.apportionment.specs.Apportionment.{part}
-use Rattle.apportionment.proofs.Laws.{nothing-for-none}
 use Rattle.book_model.specs.declared.Book.{Book}
 use Rattle.account.specs.declared.Cents.{Cents}
 use Rattle.book_model.specs.declared.Position.{Position}
@@ -17,12 +18,10 @@ use Rattle.book_model.specs.Settle.{settledBook, settled}
 use Rattle.book_model.specs.Invariant.{Sound}
 use Rattle.book_model.proofs.Accepted.{SettleRight, settle-cases}
 use Rattle.book_model.proofs.AdvanceKept.{advance-kept}
-use Rattle.book_model.proofs.Cases.{by-order, true-not-false}
 use Rattle.book_model.proofs.OpenKept.{open-kept}
 use Rattle.book_model.proofs.Paid.{length-paid, paid-at, held-settled}
 use Rattle.book_model.proofs.RateKept.{rate-kept}
 use Rattle.book_model.proofs.SettleKept.{settle-kept}
-use Rattle.book_model.proofs.ListTotals.{weight-total}
 use Rattle.book_model.proofs.TransferKept.{transfer-kept}
 
 pub empty-sound : Sound emptyBook

@@ -1,12 +1,9 @@
 -- Facts about the definitions.
 pub mod Filled
-pub mod Cases
-pub mod InUse
 pub mod ChangedBook
 pub mod CallsReach
 pub mod Timeline
 pub mod DaysPassed
-pub mod ListTotals
 pub mod Paid
 pub mod Founded
 pub mod Financing
@@ -22,7 +19,6 @@ pub mod Assigned
 pub mod Transfers
 pub mod TransferKept
 pub mod Kept
-pub mod Asked
 pub mod Steps
 pub mod Settlements
 pub mod Readings

@@ -6,6 +6,7 @@ use mathlib.Core.Bool.{true}
 use mathlib.Core.List.{List, [], _∷_}
 use lib.ListN.{length, drop, length-append, length-drop, length-set}
 use lib.Seq.{take-append-seam, take-suc-set}
+use Rattle.general_laws.proofs.Choice.{true-not-false}
 use Rattle.book_model.specs.declared.Book.{Book}
 use Rattle.account.specs.declared.Cents.{Cents}
 use Rattle.account.specs.declared.Day.{Day}
@@ -16,7 +17,6 @@ use Rattle.account.specs.Schedule.{lastDay}
 use Rattle.book_model.specs.Invariant.{Sound, OpenSound}
 use Rattle.book_model.proofs.Accepted.{OpenRight, open-cases}
 use Rattle.account.proofs.Callers.{bounded-opening}
-use Rattle.book_model.proofs.Cases.{true-not-false}
 use Rattle.book_model.proofs.Founded.{length-founded, founded-holders, founded-shares, founded-unit-days, founded-receipts}
 
 empty-positions : length (emptyBook .positions) ≡ 64

@@ -5,22 +5,20 @@ use mathlib.Core.Path.{_≡_, refl, sym, ap, _∙_}
 use mathlib.Core.List.{List, [], _∷_}
 use lib.ListN.{length, getD, take, length-map}
 use lib.Seq.{take-append-seam}
-use Rattle.apportionment.specs.Sum.{sumBelow}
+use Rattle.general_laws.specs.Sums.{sumBelow, total}
+use Rattle.apportionment.proofs.Callers.{divides, padded-at, padded-behind, laws, weight-total}
+use Rattle.general_laws.proofs.Choice.{by-order}
+use Rattle.general_laws.proofs.Sums.{sum-none, sum-suc, sum-prefix, sum-first}
+use Rattle.general_laws.proofs.Totals.{total-most-of}
 use Rattle.apportionment.specs.declared.Apportioned.{Apportioned}
 use Rattle.apportionment.specs.Apportionment.{totalWeight, part, padded, apportioned}
-use Rattle.apportionment.proofs.Answers.{divides}
-use Rattle.apportionment.proofs.Arrays.{padded-at, padded-behind}
-use Rattle.apportionment.proofs.Laws.{laws}
-use Rattle.apportionment.proofs.Sums.{sum-none, sum-suc, sum-prefix}
 use Rattle.book_model.specs.declared.Book.{Book}
 use Rattle.book_model.specs.declared.Position.{Position}
 use Rattle.book_model.specs.Book.{held, fresh, withHeld, withAccount, withSettlement}
-use Rattle.book_model.specs.Positions.{paidPosition, paidFrom, unitDays, shares, receipts, holders, total}
+use Rattle.book_model.specs.Positions.{paidPosition, paidFrom, unitDays, shares, receipts, holders}
 use Rattle.book_model.specs.Settle.{settledBook}
 use Rattle.book_model.specs.Invariant.{OpenSound}
-use Rattle.book_model.proofs.Cases.{by-order}
 use Rattle.book_model.proofs.ChangedBook.{Roomy, length-held}
-use Rattle.book_model.proofs.ListTotals.{total-most-of, sum-first, weight-total}
 
 -- places counted from one more
 paid-shift : (f : ℕ → ℕ) (k : ℕ) (ps : List Position) → paidFrom f (suc k) ps ≡ paidFrom (λ i. f (suc i)) k ps

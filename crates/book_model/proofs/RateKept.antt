@@ -3,6 +3,7 @@ use Prim.Native.Nat.{ℕ, _≤_}
 use native.Mathlib.Omega.{arith}
 use mathlib.Core.Path.{_≡_, refl}
 use lib.ListN.{length, drop, length-append, length-drop}
+use Rattle.general_laws.proofs.Choice.{true-not-false}
 use Rattle.book_model.specs.declared.Book.{Book}
 use Rattle.account.specs.declared.RateOrder.{RateOrder}
 use Rattle.book_model.specs.Book.{ratesOf, settlementsOf}
@@ -13,7 +14,6 @@ use Rattle.book_model.specs.Invariant.{Sound, OpenSound}
 use Rattle.book_model.proofs.Accepted.{RateRight, orderOf, ratesAfter, accountAfter, revisedBook, rate-cases}
 use Rattle.account.proofs.Callers.{account-bounded, principal-whole}
 use Rattle.book_model.proofs.RatesInForce.{daily-most}
-use Rattle.book_model.proofs.Cases.{true-not-false}
 use Rattle.book_model.proofs.RateOrders.{rates-withRates}
 use Rattle.book_model.proofs.StoredRates.{length-with, priced-with, from-start-with, begun-with}
 

@@ -1,14 +1,13 @@
 -- Stored rates as the account takes them: each daily number is its annual rate's, and from today on the last one holds.
-use Prim.Native.Nat.{ℕ, zero, suc, _+_, _-_, _≤_, _<_}
+use Prim.Native.Nat.{ℕ, zero, suc, _-_, _≤_, _<_}
 use native.Mathlib.Omega.{arith}
 use mathlib.Core.Path.{_≡_, refl, sym, ap, subst, fun-ext, _∙_}
 use mathlib.Core.Bool.{Bool, true, false, cond}
 use mathlib.Core.List.{List, [], _∷_, _++_}
 use lib.Dec.{leb}
 use lib.ListN.{length, take, getD}
+use Rattle.rates.proofs.Callers.{greatest, only}
 use Rattle.rates.specs.Rate.{within, dailyOf}
-use Rattle.rates.proofs.Laws.{greatest}
-use Rattle.rates.proofs.Rule.{only}
 use Rattle.account.specs.declared.Account.{Account}
 use Rattle.account.specs.declared.RateOrder.{RateOrder}
 use Rattle.account.specs.Accrual.{accruedDays}

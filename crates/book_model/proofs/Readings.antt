@@ -6,8 +6,9 @@ use mathlib.Core.Bool.{true, false, not}
 use borrow.Author.Tests.{le-leb, lt-leb}
 use lib.ListN.{getD}
 use lib.Seq.{getD-take}
+use Rattle.calendar.proofs.Callers.{laws}
+use Rattle.general_laws.proofs.Choice.{by-order}
 use Rattle.calendar.specs.Calendar.{after, dayCount, daysOfYears}
-use Rattle.calendar.proofs.Laws.{laws}
 use Rattle.book_model.specs.declared.Book.{Book}
 use Rattle.book_model.specs.declared.Refusal.the-variants as refusal
 use Rattle.book_model.specs.Book.{held}
@@ -15,7 +16,6 @@ use Rattle.book_model.specs.Outcome.{Placed, Totals, noPosition, notPlac
 use Rattle.book_model.specs.Positions.{isHolder, place, present}
 use Rattle.book_model.specs.Read.{positionOf, positionAt, totalsOf}
 use Rattle.book_model.specs.Invariant.{OpenSound}
-use Rattle.book_model.proofs.Cases.{by-order}
 
 -- A position by holder
 

@@ -6,18 +6,18 @@ use mathlib.Core.Path.{_≡_, _∙_}
 use mathlib.Core.List.{[], _∷_, _++_, map-append}
 use lib.ListN.{length-append, length-drop, length-set}
 use lib.Seq.{take-suc-set}
+use Rattle.general_laws.specs.Sums.{total}
+use Rattle.general_laws.proofs.Choice.{true-not-false}
+use Rattle.general_laws.proofs.Totals.{total-append}
 use Rattle.book_model.specs.declared.Book.{Book}
 use Rattle.account.specs.declared.Cents.{Cents}
 use Rattle.book_model.specs.Advance.{lastSettled}
 use Rattle.book_model.specs.Book.{settlementsOf, withHeld, withAccount, withSettlement}
-use Rattle.book_model.specs.Positions.{total}
 use Rattle.book_model.specs.Settle.{settledToday, settledBook, settled}
 use Rattle.book_model.specs.Invariant.{Sound, OpenSound, settledCents}
 use Rattle.book_model.proofs.Accepted.{SettleRight, settle-cases}
 use Rattle.account.proofs.Callers.{bounded-paid, paid-principal-kept, last-joined, timely-joined}
-use Rattle.book_model.proofs.Cases.{true-not-false}
 use Rattle.book_model.proofs.Paid.{count-settled, holders-settled, shares-settled, unit-days-settled, receipts-settled}
-use Rattle.book_model.proofs.ListTotals.{total-append}
 
 module _ (b : Book) (h : Sound b) (m : ℕ) (right : SettleRight b m) where
   was : OpenSound b

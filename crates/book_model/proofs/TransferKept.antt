@@ -3,6 +3,7 @@ use Prim.Native.Nat.{ℕ, _≤_}
 use native.Mathlib.Omega.{arith}
 use mathlib.Core.Path.{_≡_, _∙_}
 use lib.ListN.{length, length-append, length-drop}
+use Rattle.general_laws.proofs.Choice.{true-not-false}
 use Rattle.book_model.specs.declared.Book.{Book}
 use Rattle.book_model.specs.declared.Parts.{Parts}
 use Rattle.book_model.specs.Book.{held, withHeld}
@@ -11,7 +12,6 @@ use Rattle.book_model.specs.Transfer.{transferred}
 use Rattle.book_model.proofs.Accepted.{TransferRight, transfer-cases}
 use Rattle.book_model.proofs.Assigned.{assigned, shares-kept, unit-days-kept, receipts-kept, holders-right-kept, distinct-kept}
 use Rattle.book_model.proofs.Assigned.{length-least, length-most}
-use Rattle.book_model.proofs.Cases.{true-not-false}
 use Rattle.book_model.proofs.ChangedBook.{length-held, held-withHeld}
 
 module _ (b : Book) (h : Sound b) (c a n : ℕ) (right : TransferRight b c a n) where

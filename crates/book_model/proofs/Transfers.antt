@@ -7,6 +7,8 @@ use mathlib.Core.List.{[], _∷_, _++_}
 use borrow.Author.Tests.{eq-eqb, ne-eqb, lt-ltb, le-ltb, le-leb, lt-leb}
 use lib.ListN.{length, getD, set, length-append, length-set}
 use lib.Seq.{getD-take, getD-set-other}
+use Rattle.general_laws.proofs.Fronts.{two-stored, next-stored}
+use Rattle.general_laws.proofs.Totals.{total-most-of}
 use Rattle.book_model.specs.declared.Book.{Book}
 use Rattle.book_model.specs.declared.Parts.{Parts}
 use Rattle.book_model.specs.declared.Position.{Position}
@@ -19,10 +21,9 @@ use Rattle.book_model.specs.Invariant.{Sound, OpenSound}
 use Rattle.book_model.specs.Transfer.{moved, transferred}
 use Rattle.book_model.proofs.Filled.{stored-held}
 use Rattle.book_model.proofs.Assigned.{assigned}
-use Rattle.book_model.proofs.Changes.{change-at, length-change, place-change, two-stored, next-stored}
+use Rattle.book_model.proofs.Changes.{change-at, length-change, place-change}
 use Rattle.book_model.proofs.ChangedBook.{length-held}
 use Rattle.book_model.proofs.Places.{share-at, holder-at}
-use Rattle.book_model.proofs.ListTotals.{total-most-of}
 
 -- Between two holders, the cedent in the book at a place
 

@@ -5,6 +5,8 @@ use mathlib.Core.Path.{_≡_}
 use mathlib.Core.Bool.{true, false}
 use mathlib.Core.List.{List, [], _∷_, map}
 use lib.ListN.{length}
+use Rattle.general_laws.specs.Members.{all, distinct}
+use Rattle.general_laws.specs.Sums.{total}
 use Rattle.calendar.specs.Calendar.{isDate}
 use Rattle.rates.specs.Rate.{dailyOf}
 use Rattle.book_model.specs.declared.Book.{Book}
@@ -12,8 +14,7 @@ use Rattle.account.specs.declared.RateOrder.{RateOrder}
 use Rattle.account.specs.declared.Settlement.{Settlement}
 use Rattle.book_model.specs.Advance.{lastSettled}
 use Rattle.book_model.specs.Book.{emptyBook, held, ratesOf, settlementsOf}
-use Rattle.book_model.specs.Open.{all, distinct}
-use Rattle.book_model.specs.Positions.{isHolder, holders, shares, unitDays, receipts, total}
+use Rattle.book_model.specs.Positions.{isHolder, holders, shares, unitDays, receipts}
 use Rattle.account.specs.Invariant.{Bounded, FromStart, Timely}
 
 -- the cents of the settlements

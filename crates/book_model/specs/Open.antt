@@ -4,6 +4,8 @@ use mathlib.Core.Bool.{Bool, true, cond, not, _&&_}
 use mathlib.Core.List.{List, [], _∷_, _++_}
 use lib.Dec.{leb, ltb, eqb}
 use lib.ListN.{length, drop, set}
+pub use Rattle.general_laws.specs.Members.{all, distinct}
+use Rattle.general_laws.specs.Sums.{total}
 use Rattle.calendar.specs.Calendar.{isDate}
 use Rattle.book_model.specs.declared.Book.{Book}
 use Rattle.account.specs.declared.Cents.{Cents}
@@ -13,17 +15,7 @@ use Rattle.book_model.specs.declared.Refusal.the-variants as refusal
 use Rattle.book_model.specs.Book.{emptyBook, fresh, orderFrom}
 use Rattle.account.specs.Opening.{opening}
 use Rattle.book_model.specs.Outcome.{Outcome, nothing, accept, refuse}
-use Rattle.book_model.specs.Positions.{isHolder, total, among}
-
--- a test that every number of a list passes
-abbrev pub all : (ℕ → Bool) → List ℕ → Bool
-all test [] = true
-all test (n ∷ ns) = test n && all test ns
-
--- no number stands twice
-abbrev pub distinct : List ℕ → Bool
-distinct [] = true
-distinct (n ∷ ns) = not (among n ns) && distinct ns
+use Rattle.book_model.specs.Positions.{isHolder}
 
 abbrev pub isShare : ℕ → Bool
 isShare n = not (eqb n 0)

@@ -1,9 +1,10 @@
 -- Positions in book order: looked up and changed by holder, aged by days, paid by parts.
 use Prim.Native.Nat.{ℕ, suc, _+_, _-_}
-use mathlib.Core.Bool.{Bool, false, cond, not, _&&_, _||_}
+use mathlib.Core.Bool.{Bool, cond, not, _&&_}
 use mathlib.Core.List.{List, [], _∷_, _++_, map}
 use lib.Dec.{leb, ltb, eqb}
 use lib.ListN.{length}
+pub use Rattle.general_laws.specs.Sums.{total}
 use Rattle.book_model.specs.declared.Position.{Position}
 use Rattle.book_model.specs.declared.positions.Found.{Found}
 use Rattle.book_model.specs.declared.positions.Found.the-variants.{At, Nothing}
@@ -73,13 +74,3 @@ receipts ps = map (λ (p : Position). p .received .0) ps
 
 abbrev pub holders : List Position → List ℕ
 holders ps = map (λ (p : Position). p .holder) ps
-
--- the sum of a list
-abbrev pub total : List ℕ → ℕ
-total [] = 0
-total (n ∷ ns) = n + total ns
-
--- a number stands in a list
-abbrev pub among : ℕ → List ℕ → Bool
-among n [] = false
-among n (m ∷ ms) = eqb m n || among n ms

@@ -2,10 +2,12 @@
 ghost use mathlib.Core.Path.{_≡_};
 ghost use Prim.Native.Nat.{_+_, _≤_, _<_};
 ghost use lib.ListN.{length, getD, drop};
+ghost use Rattle.general_laws.specs.Members.{all, distinct, among};
+ghost use Rattle.general_laws.specs.Sums.{total};
 ghost use Rattle.book_model.specs.Book.{withHeld};
-ghost use Rattle.book_model.specs.Open.{isTerm, isRecognised, all, distinct, isShare, isFinancing, founded, newBook, opened};
+ghost use Rattle.book_model.specs.Open.{isTerm, isRecognised, isShare, isFinancing, founded, newBook, opened};
 ghost use Rattle.book_model.specs.Outcome.{refuse, nothing, openStated};
-ghost use Rattle.book_model.specs.Positions.{isHolder, total, among};
+ghost use Rattle.book_model.specs.Positions.{isHolder};
 use book_model::Account;
 use book_model::Book;
 use book_model::Cents;

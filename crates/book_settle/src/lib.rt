@@ -1,5 +1,6 @@
 // Settle (document 01): a payment to the account, split among the positions by their unit-days.
 ghost use mathlib.Core.Path.{_≡_};
+ghost use Rattle.general_laws.specs.Sums.{total};
 ghost use Rattle.account.specs.Accrual.{paidOff, worth};
 ghost use Rattle.account.specs.Invariant.{Fits};
 ghost use mathlib.Core.List.{_++_};
@@ -7,7 +8,7 @@ ghost use Prim.Native.Nat.{ℕ, _≤_, _<_, min};
 ghost use lib.ListN.{length, take, drop, getD};
 ghost use Rattle.apportionment.specs.Apportionment.{part};
 ghost use Rattle.book_model.specs.Outcome.{noPosition, settleCase, settleStated};
-ghost use Rattle.book_model.specs.Positions.{paidPosition, paidFrom, unitDays, total};
+ghost use Rattle.book_model.specs.Positions.{paidPosition, paidFrom, unitDays};
 ghost use Rattle.book_model.specs.Reached.{Reached};
 ghost use Rattle.book_model.specs.Settle.{settled};
 ghost use Rattle.book_model.specs.Invariant.{Sound};

@@ -8,7 +8,7 @@ use Rattle.calendar.specs.Answers.{dateNumber, sumOf}
 use Rattle.calendar.specs.Laws.{Laws}
 use Rattle.calendar.proofs.Walk.{date-of-count, after-sum}
 use Rattle.calendar.proofs.Counts.{last-count, count-within, count-of-date, made-is-date, sum-is-date, count-of-sum, count-grows, date-grows}
-use Rattle.calendar.proofs.Cases.{date-tells, refused-tells, sum-none, sum-beyond}
+use Rattle.calendar.proofs.Answers.{date-tells, refused-tells, sum-none, sum-beyond}
 
 sum-of-sum : (x y m n : ℕ) → sumOf x m ≡ (0, y) → sumOf y n ≡ sumOf x (m + n)
 unfolding sumOf

@@ -7,8 +7,9 @@ use native.Mathlib.Omega.{arith}
 use borrow.Author.Tests.{leb-true, eqb-true}
 use lib.Dec.{leb, eqb}
 use lib.ListN.{getD, take}
-use Rattle.calendar.specs.Calendar.{isLeap, monthLengths, sum, daysIn, daysOfYears, daysOfMonths}
-use Rattle.calendar.proofs.Tests.{everyBelow, at-each}
+use Rattle.general_laws.specs.Sums.{total}
+use Rattle.general_laws.proofs.Every.{everyBelow, at-each}
+use Rattle.calendar.specs.Calendar.{isLeap, monthLengths, daysIn, daysOfYears, daysOfMonths}
 
 -- a test that passes in a leap year and in another passes in every year
 in-every-year : (n : ℕ) (f : Bool → ℕ → Bool) → everyBelow n (f true) ≡ true → everyBelow n (f false) ≡ true
@@ -28,22 +29,22 @@ pub months-suc : (y k : ℕ) → k < 12 → daysOfMonths y (suc k) ≡ daysOfMon
 months-suc y k h =
     eqb-true _ _
     (in-every-year 12
-    (λ leap i. eqb (sum (take (suc i) (monthLengths leap))) (sum (take i (monthLengths leap)) + getD (monthLengths leap) (suc i - 1) 0))
+    (λ leap i. eqb (total (take (suc i) (monthLengths leap))) (total (take i (monthLengths leap)) + getD (monthLengths leap) (suc i - 1) 0))
     refl refl (isLeap y) k h)
 
 pub months-most : (y k : ℕ) → k < 13 → daysOfMonths y k ≤ 31 * k
 months-most y k h =
-    leb-true _ _ (in-every-year 13 (λ leap i. leb (sum (take i (monthLengths leap))) (31 * i)) refl refl (isLeap y) k h)
+    leb-true _ _ (in-every-year 13 (λ leap i. leb (total (take i (monthLengths leap))) (31 * i)) refl refl (isLeap y) k h)
 
 -- the days of the year before each month
 abbrev pub monthStarts : Bool → List ℕ
 monthStarts true = 0 ∷ 31 ∷ 60 ∷ 91 ∷ 121 ∷ 152 ∷ 182 ∷ 213 ∷ 244 ∷ 274 ∷ 305 ∷ 335 ∷ []
 monthStarts false = 0 ∷ 31 ∷ 59 ∷ 90 ∷ 120 ∷ 151 ∷ 181 ∷ 212 ∷ 243 ∷ 273 ∷ 304 ∷ 334 ∷ []
 
-pub month-start : (leap : Bool) (k : ℕ) → k < 12 → getD (monthStarts leap) k 0 ≡ sum (take k (monthLengths leap))
+pub month-start : (leap : Bool) (k : ℕ) → k < 12 → getD (monthStarts leap) k 0 ≡ total (take k (monthLengths leap))
 month-start leap k h =
     eqb-true _ _
-    (in-every-year 12 (λ b i. eqb (getD (monthStarts b) i 0) (sum (take i (monthLengths b)))) refl refl leap k h)
+    (in-every-year 12 (λ b i. eqb (getD (monthStarts b) i 0) (total (take i (monthLengths b)))) refl refl leap k h)
 
 pub years-formula : (k : ℕ) → k < 201 → daysOfYears k ≡ 365 * k + (k + 3) / 4 - (k + 99) / 100 + (k + 399) / 400
 unfolding daysOfYears
@@ -53,7 +54,7 @@ years-formula k h =
 pub years-most : (k : ℕ) → k < 201 → daysOfYears k ≤ 366 * k
 years-most k h = omega (arith, years-formula k h)
 
-whole-year : (leap : Bool) → sum (monthLengths leap) ≡ sum (take 12 (monthLengths leap))
+whole-year : (leap : Bool) → total (monthLengths leap) ≡ total (take 12 (monthLengths leap))
 whole-year true = refl
 whole-year false = refl
 

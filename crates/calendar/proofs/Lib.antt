@@ -1,11 +1,10 @@
--- Facts about the definitions. `Laws` and `Examples` are what the crate states, `Cases` is for callers, the others are what these cite.
-pub mod Tests
+-- Facts about the definitions. `Callers` has what other crates cite; `Laws` and `Examples` are what the crate states.
 pub mod Lengths
 pub mod Parts
 pub mod Walk
 pub mod Order
 pub mod Counts
-pub mod Differences
-pub mod Cases
+pub mod Answers
 pub mod Laws
 pub mod Examples
+pub mod Callers

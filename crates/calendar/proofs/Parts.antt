@@ -5,8 +5,8 @@ use Prim.Native.Nat.{ℕ, _+_, _≤_, _<_}
 use native.Mathlib.Omega.{arith}
 use borrow.Author.Tests.{leb-true, le-leb, ltb-true}
 use lib.Dec.{leb, ltb}
+use Rattle.general_laws.proofs.Choice.{choice}
 use Rattle.calendar.specs.Calendar.{firstDate, lastDate, yearOf, monthOf, dayOf, ymd, daysIn, isDate, following, next}
-use Rattle.calendar.proofs.Tests.{choice}
 use Rattle.calendar.proofs.Lengths.{month-least, month-most}
 
 -- what holds of three parts holds of those of their number

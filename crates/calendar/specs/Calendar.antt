@@ -4,6 +4,7 @@ use mathlib.Core.List.{List, [], _∷_}
 use Prim.Native.Nat.{ℕ, zero, suc, _+_, _-_, _*_, _/_, _%_}
 use lib.Dec.{leb, ltb, eqb}
 use lib.ListN.{getD, take}
+use Rattle.general_laws.specs.Sums.{total}
 
 abbrev pub firstDate : ℕ
 firstDate = 20000101
@@ -56,18 +57,14 @@ unfoldable pub after : ℕ → ℕ → ℕ
 after x zero = x
 after x (suc n) = next (after x n)
 
-abbrev pub sum : List ℕ → ℕ
-sum [] = 0
-sum (x ∷ xs) = x + sum xs
-
 -- the days of the first k years from 2000 on
 unfoldable pub daysOfYears : ℕ → ℕ
 daysOfYears zero = 0
-daysOfYears (suc k) = daysOfYears k + sum (monthLengths (isLeap (2000 + k)))
+daysOfYears (suc k) = daysOfYears k + total (monthLengths (isLeap (2000 + k)))
 
 -- the days of the first k months of the year y
 abbrev pub daysOfMonths : ℕ → ℕ → ℕ
-daysOfMonths y k = sum (take k (monthLengths (isLeap y)))
+daysOfMonths y k = total (take k (monthLengths (isLeap y)))
 
 -- a date's day count from 20000101: the years before it, the months before it in its year, the days before it in its month
 unfoldable pub dayCount : ℕ → ℕ

@@ -3,6 +3,8 @@ use Prim.Native.Nat.{ℕ, suc, _+_, _*_}
 use native.Mathlib.Omega.{arith}
 use mathlib.Core.Path.{_≡_, sym, ap, subst, _∙_}
 use mathlib.Core.List.{map, map-map}
+use Rattle.general_laws.proofs.Members.{map-same}
+use Rattle.general_laws.proofs.Sums.{sum-further}
 use Rattle.book_model.specs.declared.Book.{Book}
 use Rattle.book_model.specs.Advance.{daysPassed}
 use Rattle.book_model.specs.Closed.{daysHeld}
@@ -12,8 +14,7 @@ use Rattle.conservation.specs.Tally.{Tally, advance, dayOfDate, shareTod
 use Rattle.book_model.proofs.Callers.{AdvanceRight, daysTo, AdvanceStep, advance-step}
 use Rattle.conservation.proofs.Agreement.{Agrees, positionOf, unitDaysOf, none-ahead}
 use Rattle.conservation.proofs.ByHolder.{position-same}
-use Rattle.conservation.proofs.Members.{map-same}
-use Rattle.conservation.proofs.TallyDays.{sum-further, last-most, last-further, share-days-further}
+use Rattle.conservation.proofs.TallyDays.{last-most, last-further, share-days-further}
 
 -- n days more
 module _ (b : Book) (known : OpenSound b) (t : Tally) (agrees : Agrees b t) (n : ℕ) where

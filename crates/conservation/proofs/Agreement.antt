@@ -5,11 +5,12 @@ use mathlib.Core.Path.{_≡_, refl, ap, _∙_}
 use mathlib.Core.Bool.{true, false}
 use mathlib.Core.List.{map, map-map}
 use mathlib.Core.Option.{none, some}
+use Rattle.general_laws.specs.Members.{distinct, among}
+use Rattle.general_laws.specs.Sums.{total}
 use Rattle.book_model.specs.declared.Book.{Book}
 use Rattle.book_model.specs.declared.Position.{Position}
 use Rattle.book_model.specs.Book.{held, settlementsOf}
-use Rattle.book_model.specs.Open.{distinct}
-use Rattle.book_model.specs.Positions.{holders, shares, unitDays, receipts, total, among}
+use Rattle.book_model.specs.Positions.{holders, shares, unitDays, receipts}
 use Rattle.book_model.specs.Invariant.{OpenSound}
 use Rattle.account.specs.Standing.{settledOn}
 use Rattle.conservation.specs.Tally.{Tally, shareToday, shareDays, lastBefore, weight, received}

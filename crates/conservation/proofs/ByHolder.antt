@@ -8,14 +8,16 @@ use mathlib.Core.List.{List, [], _∷_, map}
 use borrow.Author.Tests.{eqb-true, eqb-false, eq-eqb, ne-eqb, lt-ltb, le-ltb}
 use lib.Dec.{eqb, ltb}
 use lib.ListN.{length, length-map}
+use Rattle.general_laws.specs.Members.{distinct, among}
+use Rattle.general_laws.proofs.Choice.{true-not-false, neither-true}
+use Rattle.general_laws.proofs.Members.{member-other, first-apart, map-same}
 use Rattle.book_model.specs.declared.Position.{Position}
 use Rattle.book_model.specs.Book.{fresh}
-use Rattle.book_model.specs.Open.{distinct, founded}
-use Rattle.book_model.specs.Positions.{place, present, shareOf, change, paidPosition, paidFrom, holders, among}
+use Rattle.book_model.specs.Open.{founded}
+use Rattle.book_model.specs.Positions.{place, present, shareOf, change, paidPosition, paidFrom, holders}
 use Rattle.conservation.specs.Tally.{listed}
 use Rattle.conservation.specs.Tally as tally
-use Rattle.book_model.proofs.Callers.{true-not-false, neither-true}
-use Rattle.conservation.proofs.Members.{member-other, first-apart, map-same, place-within, place-without}
+use Rattle.conservation.proofs.Members.{place-within, place-without}
 
 -- positions are the same where their numbers are
 abbrev pub positionWith : ℕ → ℕ → ℕ → ℕ → Position

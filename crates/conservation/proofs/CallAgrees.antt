@@ -5,6 +5,7 @@ use mathlib.Core.Path.{_≡_, ap, _∙_}
 use mathlib.Core.Bool.{false, cond}
 use borrow.Author.Tests.{ne-eqb}
 use lib.Dec.{eqb}
+use Rattle.general_laws.specs.Sums.{total}
 use Rattle.book_model.specs.declared.Book.{Book}
 use Rattle.book_model.specs.declared.Refusal.{Refusal}
 use Rattle.book_model.specs.Book.{held}
@@ -12,7 +13,7 @@ use Rattle.book_model.specs.Call.{Opening, Call, Advance, Rate, Transfer, Settl
 use Rattle.book_model.specs.Calls.{bookAfter, accepts}
 use Rattle.conservation.specs.Conservation.{centsOf}
 use Rattle.book_model.specs.Outcome.{Outcome, refusalNumber}
-use Rattle.book_model.specs.Positions.{receipts, total}
+use Rattle.book_model.specs.Positions.{receipts}
 use Rattle.book_model.specs.Rate.{withRates}
 use Rattle.book_model.specs.Invariant.{Sound}
 use Rattle.conservation.specs.Tally.{Tally, dayOfDate, entered}

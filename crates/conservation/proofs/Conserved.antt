@@ -5,13 +5,14 @@ use mathlib.Core.Path.{_≡_}
 use mathlib.Core.Bool.{cond}
 use mathlib.Core.List.{List, [], _∷_}
 use lib.Dec.{eqb}
+use Rattle.general_laws.specs.Sums.{total}
 use Rattle.book_model.specs.declared.Book.{Book}
 use Rattle.book_model.specs.declared.Refusal.{Refusal}
 use Rattle.book_model.specs.Book.{held}
 use Rattle.book_model.specs.Call.{Opening, Call, Advance, Rate, Transfer, Settle}
 use Rattle.book_model.specs.Calls.{bookAfter, accepts, run}
 use Rattle.book_model.specs.Outcome.{Outcome, refusalNumber}
-use Rattle.book_model.specs.Positions.{receipts, total}
+use Rattle.book_model.specs.Positions.{receipts}
 use Rattle.book_model.specs.Reached.{Reached, empty, opens}
 use Rattle.book_model.specs.Invariant.{Sound}
 use Rattle.book_model.proofs.Callers.{orderOf, accountAfter, advance-cases, rate-cases, transfer-cases, settle-cases, call-reached, sound, standing, advance-step, transfer-step, settle-step}

@@ -2,8 +2,9 @@
 use mathlib.Core.Path.{_≡_, refl, sym, ap, _∙_}
 use mathlib.Core.List.{[], _∷_}
 use lib.IntN.{pos, negℤ}
+use Rattle.general_laws.specs.Sums.{sumBelow, countBelow}
+use Rattle.rates.proofs.Callers.{only}
 use Rattle.calendar.specs.Calendar.{after, daysOfYears, dayCount}
-use Rattle.apportionment.specs.Sum.{sumBelow, countBelow}
 use Rattle.apportionment.specs.Apportionment.{totalWeight, quotient, remainder, leftover, comesBefore, rank, getsExtra, part}
 use Rattle.rates.specs.Rate.{within, dailyOf}
 use Rattle.book_model.specs.declared.Book.{Book}
@@ -24,9 +25,8 @@ use Rattle.account.specs.Standing.{settledOn, dayBegins, accountAt, overpaid}
 use Rattle.book_model.specs.Transfer.{moved, transferred}
 use Rattle.conservation.specs.Examples.{Examples, Edges, ownBook, figures, position, nextDay, changesAt0, changes, fileBook}
 use Rattle.conservation.proofs.SteadyDays.{daysAt, days-steady}
-use Rattle.calendar.proofs.Examples as calendar
-use Rattle.rates.proofs.Examples as rates
-use Rattle.rates.proofs.Rule.{only}
+use Rattle.calendar.proofs.Callers as calendar
+use Rattle.rates.proofs.Callers as rates
 
 at-0 : dailyOf 0 ≡ 0
 unfolding within

@@ -1,7 +1,7 @@
 -- Demand 3 on the money, for a book and a tally with the same opening, today, rates and settlements.
 use Prim.Native.Nat.{ℕ, _+_, _*_}
 use mathlib.Core.Path.{_≡_, sym, ap, _∙_}
-use Rattle.apportionment.specs.Sum.{sumBelow}
+use Rattle.general_laws.specs.Sums.{sumBelow}
 use Rattle.rates.specs.Rate.{dailyOf}
 use Rattle.book_model.specs.declared.Book.{Book}
 use Rattle.book_model.specs.Book.{ratesOf, settlementsOf}

@@ -3,22 +3,19 @@ use Prim.Native.Nat.{ℕ, suc, _<_}
 use native.Mathlib.Omega.{arith}
 use native.Mathlib.Nat.{mul-zero, zero-div, zero-mod}
 use native.Mathlib.Numerals.{add-one}
-use mathlib.Core.Path.{_≡_, refl, ap₂, _∙_}
-use mathlib.Core.Bool.{Bool, true, false, _&&_, _||_}
+use mathlib.Core.Path.{_≡_, ap₂, _∙_}
+use mathlib.Core.Bool.{false, _&&_, _||_, and-false}
 use mathlib.Core.List.{List, [], _∷_, _++_}
 use borrow.Author.Tests.{le-ltb}
 use lib.Dec.{ltb, eqb}
 use lib.ListN.{length, length-append, List·getD-append}
 use lib.Seq.{getD-append-seam}
+use Rattle.general_laws.specs.Sums.{sumBelow}
+use Rattle.apportionment.proofs.Callers.{nothing-for-none, weight-total}
+use Rattle.general_laws.proofs.Counts.{count-same, count-suc}
+use Rattle.general_laws.proofs.Sums.{sum-same}
+use Rattle.general_laws.proofs.Totals.{total-append}
 use Rattle.apportionment.specs.Apportionment.{totalWeight, quotient, remainder, leftover, comesBefore, rank, getsExtra, part}
-use Rattle.apportionment.specs.Sum.{sumBelow}
-use Rattle.apportionment.proofs.Laws.{nothing-for-none}
-use Rattle.apportionment.proofs.Sums.{sum-same, count-same, count-suc}
-use Rattle.book_model.proofs.Callers.{total-append, weight-total}
-
-never-both : (t : Bool) → t && false ≡ false
-never-both true = refl
-never-both false = refl
 
 module _ (m : ℕ) (ws : List ℕ) where
   -- the weights with that position
@@ -66,7 +63,7 @@ module _ (m : ℕ) (ws : List ℕ) where
     unfolding comesBefore
     last-not-before =
         rw (remainder-last, le-ltb (remainder m joined k) 0 (omega arith), le-ltb (length ws) k (omega arith))
-        (never-both (eqb 0 (remainder m joined k)))
+        (and-false (eqb 0 (remainder m joined k)))
 
     rank-kept : rank (remainder m joined) (length joined) k ≡ rank (remainder m ws) (length ws) k
     unfolding rank

@@ -1,13 +1,13 @@
 -- An accepted opening agrees with the tally's start.
 use mathlib.Core.Path.{_≡_, refl, sym, ap, _∙_}
 use mathlib.Core.List.{map, map-map}
-use Rattle.apportionment.specs.Sum.{sumBelow}
+use Rattle.general_laws.specs.Sums.{sumBelow, total}
 use Rattle.book_model.specs.declared.Book.{Book}
 use Rattle.book_model.specs.Book.{emptyBook, fresh, held}
 use Rattle.conservation.specs.Conservation.{openingOf}
 use Rattle.book_model.specs.Open.{founded, newBook}
 use Rattle.book_model.specs.Outcome.{Outcome}
-use Rattle.book_model.specs.Positions.{shares, receipts, total}
+use Rattle.book_model.specs.Positions.{shares, receipts}
 use Rattle.account.specs.Standing.{settledOn}
 use Rattle.book_model.specs.Call.{Opening}
 use Rattle.conservation.specs.Tally.{listed, start, shareDays, lastBefore, portionOn, received}

@@ -3,6 +3,7 @@ use Prim.Native.Nat.{ℕ}
 use mathlib.Core.Path.{_≡_, refl, sym, ap, _∙_, subst}
 use mathlib.Core.Bool.{true, false}
 use mathlib.Core.List.{List, [], _∷_, _++_}
+use Rattle.general_laws.proofs.Choice.{by-test, true-not-false}
 use Rattle.book_model.specs.declared.Book.{Book}
 use Rattle.account.specs.declared.Cents.{Cents}
 use Rattle.account.specs.declared.Day.{Day}
@@ -13,7 +14,7 @@ use Rattle.book_model.specs.Open.{opened}
 use Rattle.book_model.specs.Outcome.{Outcome}
 use Rattle.book_model.specs.Reached.{Reached, empty, opens, advances, rates, transfers, settles}
 use Rattle.book_model.specs.Invariant.{Sound}
-use Rattle.book_model.proofs.Callers.{open-cases, advance-cases, rate-cases, transfer-cases, settle-cases, by-test, true-not-false, sound}
+use Rattle.book_model.proofs.Callers.{open-cases, advance-cases, rate-cases, transfer-cases, settle-cases, sound}
 use Rattle.conservation.specs.Conservation.{openingOf, feedOf, Conserved, History, ReachedConserved}
 use Rattle.conservation.specs.Tally.{start, fedWith}
 use Rattle.conservation.proofs.Conserved.{conserved}

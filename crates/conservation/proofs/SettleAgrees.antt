@@ -7,9 +7,10 @@ use mathlib.Core.List.{List, map}
 use mathlib.Core.Option.{Option, none, some}
 use borrow.Author.Tests.{eq-eqb, ne-eqb}
 use lib.Dec.{eqb}
+use Rattle.general_laws.specs.Sums.{sumBelow}
+use Rattle.general_laws.proofs.Members.{map-same}
+use Rattle.general_laws.proofs.Sums.{sum-same}
 use Rattle.apportionment.specs.Apportionment.{part}
-use Rattle.apportionment.specs.Sum.{sumBelow}
-use Rattle.apportionment.proofs.Sums.{sum-same}
 use Rattle.book_model.specs.declared.Book.{Book}
 use Rattle.book_model.specs.declared.Position.{Position}
 use Rattle.book_model.specs.Book.{held, settlementsOf}
@@ -21,7 +22,6 @@ use Rattle.conservation.specs.Tally.{Tally, settle, shareDays, weight, p
 use Rattle.book_model.proofs.Callers.{SettleRight, SettleStep, settle-step}
 use Rattle.conservation.proofs.Agreement.{Agrees, positionOf, unitDaysOf, holders-distinct, unit-days-same}
 use Rattle.conservation.proofs.ByHolder.{position-same, paid-is}
-use Rattle.conservation.proofs.Members.{map-same}
 use Rattle.account.proofs.Callers.{none-after-last, settled-joined}
 use Rattle.conservation.proofs.TallyDays.{last-none, last-some, share-days-none, weight-same}
 

@@ -7,25 +7,11 @@ use mathlib.Core.List.{map}
 use mathlib.Core.Option.{Option, none, some}
 use borrow.Author.Tests.{le-leb, lt-leb}
 use lib.Dec.{leb}
-use Rattle.apportionment.specs.Sum.{sumBelow}
-use Rattle.apportionment.proofs.Sums.{sum-same}
-use Rattle.book_model.specs.Positions.{total}
+use Rattle.general_laws.specs.Sums.{sumBelow, total}
+use Rattle.general_laws.proofs.Choice.{choice}
+use Rattle.general_laws.proofs.Sums.{sum-same, sum-zero}
+use Rattle.general_laws.proofs.Totals.{total-le}
 use Rattle.conservation.specs.Tally.{Tally, shareDays, isSettled, lastBefore, weight}
-use Rattle.book_model.proofs.Callers.{choice}
-use Rattle.conservation.proofs.Members.{total-le}
-
--- Sums below a bound
-
-pub sum-zero : (n : ℕ) (f : ℕ → ℕ) → ((k : ℕ) → k < n → f k ≡ 0) → sumBelow n f ≡ 0
-unfolding sumBelow
-sum-zero zero f e = refl
-sum-zero (suc n) f e = omega (arith, e n (omega arith), sum-zero n f (λ k lt. e k (omega arith)))
-
--- n terms more, all 0
-pub sum-further : (f : ℕ → ℕ) (i n : ℕ) → ((k : ℕ) → i ≤ k → f k ≡ 0) → sumBelow (i + n) f ≡ sumBelow i f
-unfolding sumBelow
-sum-further f i zero e = rw (add-zero i)
-sum-further f i (suc n) e = rw (add-suc i n) (omega (arith, e (i + n) (omega arith), sum-further f i n e))
 
 -- The day of the last settlement before a day
 

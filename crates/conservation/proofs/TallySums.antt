@@ -2,7 +2,7 @@
 use Prim.Native.Nat.{ℕ, zero, suc, _+_, _*_}
 use mathlib.Core.Path.{_≡_, refl, ap, _∙_}
 use mathlib.Core.Option.{Option, none, some}
-use Rattle.apportionment.specs.Sum.{sumBelow}
+use Rattle.general_laws.specs.Sums.{sumBelow}
 use Rattle.conservation.specs.Tally.{Sums, outstandingOf, paying, before, through}
 
 -- The same rates and settlements on every day

@@ -8,21 +8,26 @@ use mathlib.Core.Option.{Option, none, some}
 use borrow.Author.Tests.{eqb-true, eqb-false, eq-eqb, ne-eqb, le-leb, lt-leb}
 use lib.Dec.{eqb, leb}
 use lib.ListN.{length-map}
+use Rattle.general_laws.specs.Members.{distinct, among}
+use Rattle.general_laws.specs.Sums.{total}
+use Rattle.apportionment.proofs.Callers.{weight-total}
+use Rattle.general_laws.proofs.Choice.{choice, by-order, true-not-false}
+use Rattle.general_laws.proofs.Members.{member-other, map-same, onlyAt, total-at}
+use Rattle.general_laws.proofs.Sums.{sum-same, sum-zero}
+use Rattle.general_laws.proofs.Totals.{total-both}
 use Rattle.apportionment.specs.Apportionment.{part}
-use Rattle.apportionment.proofs.Sums.{sum-same}
 use Rattle.book_model.specs.declared.Book.{Book}
 use Rattle.book_model.specs.declared.Position.{Position}
 use Rattle.book_model.specs.Book.{fresh, held, withHeld}
-use Rattle.book_model.specs.Open.{distinct}
-use Rattle.book_model.specs.Positions.{present, shareOf, change, less, more, given, total, among}
+use Rattle.book_model.specs.Positions.{present, shareOf, change, less, more, given}
 use Rattle.book_model.specs.Invariant.{OpenSound, Sound}
 use Rattle.conservation.specs.Tally.{Tally, movedShare, withHolder, transfer, shareToday, lastBefore, weight, place, portionOf, portionOn, received}
-use Rattle.book_model.proofs.Callers.{TransferRight, assigned, choice, by-order, true-not-false, weight-total, TransferStep, transfer-step}
+use Rattle.book_model.proofs.Callers.{TransferRight, assigned, TransferStep, transfer-step}
 use Rattle.conservation.proofs.Agreement.{Agrees, positionOf, unitDaysOf, holders-distinct, settled-weights}
 use Rattle.conservation.proofs.ByHolder.{positionWith, position-same, present-is, share-is, changedAt, change-is}
-use Rattle.conservation.proofs.Members.{member-other, map-same, place-within, place-kept, place-last, added, still-among, added-among, away-before, added-distinct, added-total, total-both, onlyAt, total-at}
+use Rattle.conservation.proofs.Members.{place-within, place-kept, place-last, added, still-among, added-among, away-before, added-distinct, added-total}
 use Rattle.conservation.proofs.Newcomers.{part-kept, part-last}
-use Rattle.conservation.proofs.TallyDays.{sum-zero, share-days-same, share-days-absent, weight-same}
+use Rattle.conservation.proofs.TallyDays.{share-days-same, share-days-absent, weight-same}
 
 -- A settlement's portions by weights f, where the assignee a comes last without any
 

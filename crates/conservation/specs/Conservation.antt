@@ -3,13 +3,13 @@ use Prim.Native.Nat.{ℕ, _+_, _*_}
 use mathlib.Core.Path.{_≡_}
 use mathlib.Core.Bool.{true, cond}
 use mathlib.Core.List.{List, [], _∷_, map}
-use Rattle.apportionment.specs.Sum.{sumBelow}
+use Rattle.general_laws.specs.Sums.{sumBelow, total}
 use Rattle.book_model.specs.declared.Book.{Book}
 use Rattle.book_model.specs.Book.{emptyBook, held}
 use Rattle.book_model.specs.Call.{Opening, Call, Advance, Rate, Transfer, Settle}
 use Rattle.book_model.specs.Calls.{openedWith, bookAfter, accepts, run}
 use Rattle.book_model.specs.Outcome.{Outcome}
-use Rattle.book_model.specs.Positions.{holders, shares, receipts, total}
+use Rattle.book_model.specs.Positions.{holders, shares, receipts}
 use Rattle.book_model.specs.Reached.{Reached}
 use Rattle.conservation.specs.Tally.{Fed, Tally, start, fedWith, sumsToday, dueOf, outstandingOf, outstandingOn, dailyOfDay, shareToday, received}
 

@@ -1,12 +1,13 @@
--- The tally (document 01, "The tally"), from the paper's text alone. It shares with the book's side the calls' arguments, dates, daily rates
--- and the split, and nothing else.
+-- The tally (document 01, "The tally"), from the paper's text alone. It shares with the book's side the calls' arguments, dates, daily
+-- rates, the split, and sums and membership of any list, and nothing else.
 use Prim.Native.Nat.{ℕ, zero, suc, _+_, _-_, _*_, _/_, min}
-use mathlib.Core.Bool.{Bool, true, false, cond, _||_}
+use mathlib.Core.Bool.{Bool, true, false, cond}
 use mathlib.Core.List.{List, [], _∷_, _++_, map}
 use mathlib.Core.Option.{Option, none, some}
 use lib.Dec.{leb, eqb}
+use Rattle.general_laws.specs.Members.{among}
+use Rattle.general_laws.specs.Sums.{sumBelow}
 use Rattle.apportionment.specs.Apportionment.{part}
-use Rattle.apportionment.specs.Sum.{sumBelow}
 use Rattle.calendar.specs.Calendar.{dayCount}
 use Rattle.rates.specs.Rate.{dailyOf}
 use Rattle.book_model.specs.Call.{Opening, Call, Advance, Rate, Transfer, Settle}
@@ -65,12 +66,8 @@ revise t day annual =
 abbrev pub movedShare : ℕ → ℕ → ℕ → ℕ → ℕ → ℕ
 movedShare c a n h share = cond (eqb h c) (share - n) (cond (eqb h a) (share + n) share)
 
-abbrev pub appears : ℕ → List ℕ → Bool
-appears h [] = false
-appears h (x ∷ hs) = eqb x h || appears h hs
-
 abbrev pub withHolder : ℕ → List ℕ → List ℕ
-withHolder h hs = cond (appears h hs) hs (hs ++ (h ∷ []))
+withHolder h hs = cond (among h hs) hs (hs ++ (h ∷ []))
 
 -- "Transfer moves parts today and later"
 unfoldable pub transfer : Tally → ℕ → ℕ → ℕ → Tally

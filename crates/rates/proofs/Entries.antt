@@ -1,12 +1,14 @@
 -- The rule at every entry of the table, by one test that is computed over the whole of it.
-use mathlib.Core.Bool.{Bool, true, false, not, _&&_}
-use mathlib.Core.Path.{_≡_, refl}
-use Prim.Native.Nat.{ℕ, suc, _<_, _≤_}
+use mathlib.Core.Bool.{Bool, not, _&&_}
+use mathlib.Core.Path.{_≡_}
+use Prim.Native.Nat.{ℕ, suc, _<_}
 use lib.Dec.{T}
+use lib.Ieee.Bits.{is-true, is-false}
+use lib.Ieee.Fits.{and-l, and-r}
 use lib.ListN.{getD, take, drop}
+use Rattle.general_laws.proofs.Every.{every, at-entry, every-joined}
 use Rattle.rates.specs.Rate.{within, dailyOf}
 use Rattle.rates.proofs.DailyRates.{dailyRates}
-use Rattle.rates.proofs.Every.{every, at, joined, left-true, right-true}
 use Rattle.rates.proofs.Rule.{only}
 
 -- d meets the bound of i, and the next number does not
@@ -33,26 +35,18 @@ part3 = tt
 whole : T (every right 0 dailyRates)
 unfolding dailyRates
 whole =
-    joined right 1001 dailyRates 0 part0
-    (joined right 1001 (drop 1001 dailyRates) 1001 part1 (joined right 1001 (drop 2002 dailyRates) 2002 part2 part3))
+    every-joined right 1001 dailyRates 0 part0
+    (every-joined right 1001 (drop 1001 dailyRates) 1001 part1 (every-joined right 1001 (drop 2002 dailyRates) 2002 part2 part3))
 
 right-at : (k : ℕ) → k < 4001 → T (right k (getD dailyRates k 0))
 unfolding dailyRates
-right-at k h = at right dailyRates whole k h
-
-is-true : (b : Bool) → T b → b ≡ true
-is-true true t = refl
-is-true false t = absurd t
-
-is-false : (b : Bool) → T (not b) → b ≡ false
-is-false true t = absurd t
-is-false false t = refl
+right-at k h = at-entry right dailyRates whole k h
 
 right-only : (i d : ℕ) → T (right i d) → d ≡ dailyOf i
 unfolding right
 right-only i d t =
-    only i d (is-true (within i d) (left-true (within i d) (not (within i (suc d))) t))
-    (is-false (within i (suc d)) (right-true (within i d) (not (within i (suc d))) t))
+    only i d (is-true (within i d) (and-l (within i d) (not (within i (suc d))) t))
+    (is-false (within i (suc d)) (and-r (within i d) (not (within i (suc d))) t))
 
 pub entry : (k : ℕ) → k < 4001 → getD dailyRates k 0 ≡ dailyOf k
 entry k h = right-only k (getD dailyRates k 0) (right-at k h)

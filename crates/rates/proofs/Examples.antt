@@ -3,7 +3,7 @@ use mathlib.Core.Path.{_≡_, refl, sym, _∙_, ap}
 use Prim.Native.Nat.{ℕ, suc, _≤_}
 use lib.Dec.{lit≤, lit<}
 use mathlib.Core.Bool.{true, false}
-use Rattle.rates.specs.Rate.{within, dailyOf, rateOf}
+use Rattle.rates.specs.Rate.{within, rateOf}
 use Rattle.rates.specs.Examples.{Examples}
 use Rattle.rates.proofs.Rule.{only}
 use Rattle.rates.proofs.Answers.{accepted, refused}

@@ -1,5 +1,4 @@
--- Facts about the definitions. `Laws` and `Answers` have what callers cite.
-pub mod Every
+-- Facts about the definitions. `Callers` has what other crates cite; `Laws` and `Examples` are what the crate states.
 pub mod Rule
 pub mod DailyRates
 pub mod Entries
@@ -7,3 +6,4 @@ pub mod Rising
 pub mod Answers
 pub mod Laws
 pub mod Examples
+pub mod Callers

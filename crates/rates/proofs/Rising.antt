@@ -6,10 +6,10 @@ use Prim.Native.Nat.{ℕ, zero, suc, _<_, _≤_}
 use native.Mathlib.Nat.{le-of-suc-le-suc, not-suc-le-zero, lt-of-lt-of-le}
 use native.Mathlib.Omega.{arith}
 use lib.Dec.{T, ltb, ltb→lt}
+use lib.Ieee.Fits.{and-l, and-r}
 use lib.ListN.{length, getD}
 use Rattle.rates.specs.Rate.{dailyOf}
 use Rattle.rates.proofs.DailyRates.{dailyRates}
-use Rattle.rates.proofs.Every.{left-true, right-true}
 use Rattle.rates.proofs.Rule.{grows}
 use Rattle.rates.proofs.Entries.{entry}
 
@@ -22,8 +22,8 @@ rising (x ∷ y ∷ zs) = ltb x y && rising (y ∷ zs)
 rising-at : (xs : List ℕ) → T (rising xs) → (k : ℕ) → suc k < length xs → getD xs k 0 < getD xs (suc k) 0
 rising-at [] t k h = absurd (not-suc-le-zero h)
 rising-at (x ∷ []) t k h = absurd (not-suc-le-zero (le-of-suc-le-suc h))
-rising-at (x ∷ y ∷ zs) t zero h = ltb→lt x y (left-true (ltb x y) (rising (y ∷ zs)) t)
-rising-at (x ∷ y ∷ zs) t (suc k) h = rising-at (y ∷ zs) (right-true (ltb x y) (rising (y ∷ zs)) t) k (le-of-suc-le-suc h)
+rising-at (x ∷ y ∷ zs) t zero h = ltb→lt x y (and-l (ltb x y) (rising (y ∷ zs)) t)
+rising-at (x ∷ y ∷ zs) t (suc k) h = rising-at (y ∷ zs) (and-r (ltb x y) (rising (y ∷ zs)) t) k (le-of-suc-le-suc h)
 
 table-rises : (k : ℕ) → suc k < 4001 → getD dailyRates k 0 < getD dailyRates (suc k) 0
 unfolding dailyRates

@@ -1,10 +1,11 @@
 -- What `dailyOf` is: it meets the rule, it is the largest that does, and the only one whose next does not.
-use mathlib.Core.Path.{_≡_, refl, sym, _∙_, ap, subst}
-use mathlib.Core.Bool.{Bool, true, false, cond}
-use Prim.Native.Nat.{ℕ, zero, suc, _+_, _*_, _^_, _≤_, _<_}
+use mathlib.Core.Path.{_≡_, _∙_, ap}
+use mathlib.Core.Bool.{Bool, true, false}
+use Prim.Native.Nat.{ℕ, zero, suc, _+_, _^_, _≤_, _<_}
 use native.Mathlib.Nat.{le-trans, le-antisymm, lt-of-not-le, not-le-of-lt, mul-le-mul-right, pow-le-pow-left, pow-succ', le-mul-of-pos-right, one-le-pow, le-add-left, le-add-right, le-of-suc-le-suc}
 use native.Mathlib.Omega.{arith}
 use borrow.Author.Tests.{leb-true, leb-false, le-leb}
+use Rattle.general_laws.proofs.Choice.{by-order, choice, true-not-false}
 use Rattle.rates.specs.Rate.{growth, limit, within, largest, dailyOf}
 
 -- Properties of within
@@ -23,29 +24,18 @@ beyond-lt i d e = leb-false (growth d) (limit i) e
 
 -- Properties of largest
 
-holds-by : (p : ℕ → Bool) (n m : ℕ) (b : Bool) → p n ≡ b → p m ≡ true → p (cond b n m) ≡ true
-holds-by p n m true e t = e
-holds-by p n m false e t = t
-
 largest-holds : (p : ℕ → Bool) (n : ℕ) → p 0 ≡ true → p (largest p n) ≡ true
 unfolding largest
 largest-holds p zero t = t
-largest-holds p (suc n) t = holds-by p (suc n) (largest p n) (p (suc n)) refl (largest-holds p n t)
-
-most-by : (p : ℕ → Bool) (n m d : ℕ) (b : Bool) → p (suc n) ≡ b → p d ≡ true → d ≤ suc n → (d ≤ n → d ≤ m) → d ≤ cond b (suc n) m
-most-by p n m d true e t h f = h
-most-by p n m d false e t h f = f (below d n h (λ q. differ (sym t ∙ ap p q ∙ e)))
-  where
-    differ : _≡_ {A = Bool} true false → ⊥
-    differ z = let e : _≡_ {A = ℕ} 0 1 = cc in omega arith
-
-    below : (d n : ℕ) → d ≤ suc n → (d ≡ suc n → ⊥) → d ≤ n
-    below d n h k = omega arith
+largest-holds p (suc n) t = choice (λ m. p m ≡ true) (p (suc n)) (λ e. e) (λ _. largest-holds p n t)
 
 largest-most : (p : ℕ → Bool) (n d : ℕ) → p d ≡ true → d ≤ n → d ≤ largest p n
 unfolding largest
 largest-most p zero d t h = h
-largest-most p (suc n) d t h = most-by p n (largest p n) d (p (suc n)) refl t h (λ k. largest-most p n d t k)
+largest-most p (suc n) d t h = choice (λ m. d ≤ m) (p (suc n)) (λ _. h) (λ f. largest-most p n d t (not-last f))
+  where
+    not-last : p (suc n) ≡ false → d ≤ n
+    not-last f = by-order n d (λ lt. let e : d ≡ suc n = omega arith in true-not-false (p d) t (ap p e ∙ f)) (λ le. le)
 
 -- Properties of dailyOf
 

@@ -6,11 +6,14 @@ use mathlib.Core.List.{List, _++_, map}
 use borrow.Author.Needs.{needs}
 use lib.ListN.{length, take, drop, getD, set, length-map}
 use lib.Seq.{length-take-le, getD-take}
+use Rattle.general_laws.specs.Sums.{total}
+use Rattle.general_laws.proofs.Fronts.{filled, filled-at, filled-step, filled-all}
+use Rattle.general_laws.proofs.Totals.{total-most-of}
 use Rattle.book_model.specs.declared.Position.{Position}
 use Rattle.book_model.specs.Book.{fresh}
-use Rattle.book_model.specs.Positions.{shares, unitDays, total}
+use Rattle.book_model.specs.Positions.{shares, unitDays}
 use Rattle.book_model.specs.Closed.{daysHeld}
-use Rattle.book_model.proofs.Callers.{daysHeld-at, filled, filled-at, filled-step, filled-all, total-most-of}
+use Rattle.book_model.proofs.Callers.{daysHeld-at}
 use Rattle.book_advance.proofs.hold_days.Statement.{statement}
 use Rattle.book_advance.proofs.hold_days.Tie as tie
 

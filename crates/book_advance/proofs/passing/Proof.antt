@@ -4,8 +4,8 @@ use Prim.Native.Nat.{ℕ}
 use mathlib.Core.Path.{_≡_, _∙_}
 use mathlib.Core.Bool.{true, false}
 use borrow.Author.Tests.{not-true, not-false}
+use Rattle.calendar.proofs.Callers.{Counted, day-tells, no-date-tells}
 use Rattle.calendar.specs.Calendar.{isDate}
-use Rattle.calendar.proofs.Cases.{Counted, day-tells, no-date-tells}
 use Rattle.book_model.specs.declared.Book.{Book}
 use Rattle.book_model.specs.declared.Refusal.the-variants as refusal
 use Rattle.book_model.specs.Advance.{advancedTo, advanced}

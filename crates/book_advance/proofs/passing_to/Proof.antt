@@ -5,9 +5,8 @@ use native.Mathlib.Omega.{arith}
 use mathlib.Core.Path.{_≡_, ap, _∙_}
 use mathlib.Core.Bool.{or-true}
 use borrow.Author.Tests.{lt-ltb, le-ltb, le-leb, lt-leb}
+use Rattle.calendar.proofs.Callers.{count-date, laws}
 use Rattle.calendar.specs.Calendar.{dayCount}
-use Rattle.calendar.proofs.Cases.{count-date}
-use Rattle.calendar.proofs.Laws.{laws}
 use Rattle.book_model.specs.declared.Book.{Book}
 use Rattle.book_model.specs.declared.Refusal.the-variants as refusal
 use Rattle.book_model.specs.Advance.{lastSettled, advancedTo}

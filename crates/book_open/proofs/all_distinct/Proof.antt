@@ -3,8 +3,8 @@ use Prim.Native.Nat.{_-_}
 use native.Mathlib.Omega.{arith}
 use mathlib.Core.Path.{_≡_, refl, sym, ap, _∙_}
 use lib.ListN.{length, drop, drop-of-length-le}
-use Rattle.book_model.specs.Open.{distinct}
-use Rattle.book_model.proofs.Callers.{distinct-passed, distinct-failed}
+use Rattle.general_laws.specs.Members.{distinct}
+use Rattle.general_laws.proofs.Rests.{distinct-passed, distinct-failed}
 use Rattle.book_open.proofs.all_distinct.Statement.{statement}
 use Rattle.book_open.proofs.all_distinct.Tie as tie
 

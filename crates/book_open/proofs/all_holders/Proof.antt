@@ -5,9 +5,9 @@ use mathlib.Core.Path.{_≡_, refl, sym, ap, _∙_}
 use lib.ListN.{length, drop, drop-of-length-le}
 use borrow.Author.Needs.{needs}
 use borrow.Author.Tests.{not-true, not-false}
-use Rattle.book_model.specs.Open.{all}
+use Rattle.general_laws.specs.Members.{all}
+use Rattle.general_laws.proofs.Rests.{all-passed, all-failed}
 use Rattle.book_model.specs.Positions.{isHolder}
-use Rattle.book_model.proofs.Callers.{all-passed, all-failed}
 use Rattle.book_open.proofs.all_holders.Statement.{statement}
 use Rattle.book_open.proofs.all_holders.Tie as tie
 

@@ -4,8 +4,9 @@ use native.Mathlib.Omega.{arith}
 use mathlib.Core.Path.{_≡_, refl, sym, ap, _∙_}
 use lib.ListN.{length, drop, drop-of-length-le}
 use borrow.Author.Tests.{eq-eqb, ne-eqb}
-use Rattle.book_model.specs.Open.{all, isShare}
-use Rattle.book_model.proofs.Callers.{all-passed, all-failed}
+use Rattle.general_laws.specs.Members.{all}
+use Rattle.general_laws.proofs.Rests.{all-passed, all-failed}
+use Rattle.book_model.specs.Open.{isShare}
 use Rattle.book_open.proofs.all_shares.Statement.{statement}
 use Rattle.book_open.proofs.all_shares.Tie as tie
 

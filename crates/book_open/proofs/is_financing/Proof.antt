@@ -5,7 +5,7 @@ use native.Mathlib.Omega.{arith}
 use mathlib.Core.Path.{_≡_, sym, ap, _∙_}
 use mathlib.Core.Bool.{true}
 use lib.Dec.{eqb}
-use Rattle.book_model.specs.Open.{all, distinct}
+use Rattle.general_laws.specs.Members.{all, distinct}
 use Rattle.book_model.specs.Positions.{isHolder}
 use Rattle.book_model.proofs.Callers.{unequal-lengths, no-holder, too-many-holders, wrong-holder, holder-twice, share-0, by-sum}
 use Rattle.book_open.proofs.is_financing.Statement.{statement}

@@ -6,8 +6,8 @@ use native.Mathlib.Omega.{arith}
 use mathlib.Core.Path.{_≡_, ap, _∙_}
 use borrow.Author.Needs.{needs}
 use lib.ListN.{length, drop, set}
+use Rattle.rates.proofs.Callers.{accepted}
 use Rattle.rates.specs.Rate.{dailyOf}
-use Rattle.rates.proofs.Answers.{accepted}
 use Rattle.book_model.specs.declared.Book.{Book}
 use Rattle.account.specs.declared.Cents.{Cents}
 use Rattle.account.specs.declared.Day.{Day}

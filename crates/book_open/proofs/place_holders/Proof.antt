@@ -3,9 +3,10 @@ use Prim.Native.Nat.{_-_, _≤_}
 use native.Mathlib.Omega.{arith}
 use mathlib.Core.Path.{_≡_, refl, sym}
 use lib.ListN.{length}
+use Rattle.general_laws.proofs.Fronts.{filled, filled-step, filled-all}
 use Rattle.book_model.specs.Book.{fresh, withHeld}
 use Rattle.book_model.specs.Open.{founded}
-use Rattle.book_model.proofs.Callers.{filled, withArray, filled-step, filled-all, length-founded, founded-at}
+use Rattle.book_model.proofs.Callers.{withArray, length-founded, founded-at}
 use Rattle.book_open.proofs.place_holders.Statement.{statement}
 use Rattle.book_open.proofs.place_holders.Tie as tie
 

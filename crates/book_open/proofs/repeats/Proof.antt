@@ -3,8 +3,8 @@ use Prim.Native.Nat.{_+_, _-_}
 use native.Mathlib.Omega.{arith}
 use mathlib.Core.Path.{_≡_, refl, sym, ap, _∙_}
 use lib.ListN.{length, drop, getD, drop-of-length-le}
-use Rattle.book_model.specs.Positions.{among}
-use Rattle.book_model.proofs.Callers.{among-here, among-later}
+use Rattle.general_laws.specs.Members.{among}
+use Rattle.general_laws.proofs.Rests.{among-here, among-later}
 use Rattle.book_open.proofs.repeats.Statement.{statement}
 use Rattle.book_open.proofs.repeats.Tie as tie
 

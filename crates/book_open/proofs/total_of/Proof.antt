@@ -3,8 +3,8 @@ use Prim.Native.Nat.{_+_, _-_, _*_, _≤_}
 use native.Mathlib.Omega.{arith}
 use mathlib.Core.Path.{_≡_, ap}
 use lib.ListN.{length, drop, drop-of-length-le}
-use Rattle.book_model.specs.Positions.{total}
-use Rattle.book_model.proofs.Callers.{total-step}
+use Rattle.general_laws.specs.Sums.{total}
+use Rattle.general_laws.proofs.Rests.{total-step}
 use Rattle.book_open.proofs.total_of.Statement.{statement}
 use Rattle.book_open.proofs.total_of.Tie as tie
 

@@ -4,8 +4,8 @@ use native.Mathlib.Omega.{arith}
 use mathlib.Core.Path.{ap₂}
 use borrow.Author.Needs.{needs}
 use lib.IntN.{ℤ}
+use Rattle.general_laws.proofs.Differences.{difference-fits, difference-is}
 use Rattle.book_model.specs.Outcome.{answered}
-use Rattle.calendar.proofs.Differences.{difference-fits, difference-is}
 use Rattle.book_rate.proofs.changes.Statement.{statement}
 use Rattle.book_rate.proofs.changes.Tie as tie
 

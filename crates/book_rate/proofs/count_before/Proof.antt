@@ -7,10 +7,10 @@ use mathlib.Core.List.{List}
 use borrow.Author.Needs.{needs}
 use borrow.Author.Tests.{lt-ltb, le-ltb}
 use lib.ListN.{length, take, drop, getD}
+use Rattle.general_laws.proofs.Fronts.{remains, none-remains}
 use Rattle.account.specs.declared.RateOrder.{RateOrder}
 use Rattle.account.specs.Opening.{noOrder}
 use Rattle.book_model.specs.Rate.{startingBefore}
-use Rattle.account.proofs.Callers.{remains, none-remains}
 use Rattle.book_rate.proofs.count_before.Statement.{statement}
 use Rattle.book_rate.proofs.count_before.Tie as tie
 

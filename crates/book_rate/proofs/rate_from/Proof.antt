@@ -6,11 +6,10 @@ use mathlib.Core.Bool.{or-true}
 use borrow.Author.Needs.{needs}
 use borrow.Author.Tests.{lt-ltb, le-ltb, le-leb, lt-leb}
 use lib.ListN.{length}
+use Rattle.calendar.proofs.Callers.{count-date, laws}
+use Rattle.rates.proofs.Callers.{accepted}
 use Rattle.calendar.specs.Calendar.{dayCount}
-use Rattle.calendar.proofs.Cases.{count-date}
-use Rattle.calendar.proofs.Laws.{laws}
 use Rattle.rates.specs.Rate.{dailyOf}
-use Rattle.rates.proofs.Answers.{accepted}
 use Rattle.book_model.specs.declared.Book.{Book}
 use Rattle.book_model.specs.declared.Refusal.the-variants as refusal
 use Rattle.book_model.specs.Book.{ratesOf}

@@ -3,9 +3,10 @@ use native.Mathlib.Omega.{arith}
 use mathlib.Core.Logic.{⊎-elim}
 use borrow.Author.Needs.{needs}
 use borrow.Author.Tests.{not-false}
-use Rattle.calendar.proofs.Cases.{date-tells, refused-tells}
+use Rattle.calendar.proofs.Callers.{date-tells, refused-tells}
+use Rattle.general_laws.proofs.Choice.{true-not-false}
 use Rattle.book_model.specs.Invariant.{OpenSound}
-use Rattle.book_model.proofs.Callers.{true-not-false, sound, totals-unopened, totals-open, today-counted}
+use Rattle.book_model.proofs.Callers.{sound, totals-unopened, totals-open, today-counted}
 use Rattle.book_read.proofs.totals.Statement.{statement}
 use Rattle.book_read.proofs.totals.Tie as tie
 

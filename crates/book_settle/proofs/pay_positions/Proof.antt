@@ -6,10 +6,11 @@ use mathlib.Core.List.{List, _++_}
 use borrow.Author.Needs.{needs}
 use lib.ListN.{length, take, drop, getD, set}
 use lib.Seq.{length-take-le, getD-take}
+use Rattle.general_laws.proofs.Fronts.{filled, filled-at, filled-step, filled-all}
 use Rattle.book_model.specs.declared.Position.{Position}
 use Rattle.book_model.specs.Outcome.{noPosition}
 use Rattle.book_model.specs.Positions.{paidPosition, paidFrom}
-use Rattle.book_model.proofs.Callers.{filled, filled-at, filled-step, filled-all, length-paid, paid-at}
+use Rattle.book_model.proofs.Callers.{length-paid, paid-at}
 use Rattle.book_settle.proofs.pay_positions.Statement.{statement}
 use Rattle.book_settle.proofs.pay_positions.Tie as tie
 

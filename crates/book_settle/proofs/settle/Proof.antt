@@ -3,10 +3,11 @@ use Prim.Native.Nat.{_<_, _≤_}
 use native.Mathlib.Omega.{arith}
 use mathlib.Core.Path.{_≡_, sym, ap, _∙_}
 use borrow.Author.Needs.{needs}
+use Rattle.general_laws.specs.Sums.{total}
 use Rattle.book_model.specs.declared.Book.{Book}
 use Rattle.book_model.specs.Book.{held, withAccount, withSettlement}
 use Rattle.book_model.specs.Outcome.{Answer, Outcome, Taken, settleCase}
-use Rattle.book_model.specs.Positions.{unitDays, total}
+use Rattle.book_model.specs.Positions.{unitDays}
 use Rattle.book_model.specs.Invariant.{OpenSound}
 use Rattle.book_model.proofs.Callers.{SettleRight, Roomy, sound, receipt-most, taken-right, taken-book, refused-book, put-together}
 use Rattle.account.proofs.Callers.{fits}

@@ -6,10 +6,10 @@ use mathlib.Core.List.{List}
 use borrow.Author.Needs.{needs}
 use lib.ListN.{length, take, drop, getD, replicate, length-map, List·getD-map}
 use lib.Seq.{length-take-le, getD-take, take-at}
+use Rattle.general_laws.proofs.Fronts.{filled, filled-step, filled-all, length-filled}
 use Rattle.book_model.specs.declared.Position.{Position}
 use Rattle.book_model.specs.Book.{fresh}
 use Rattle.book_model.specs.Positions.{unitDays}
-use Rattle.book_model.proofs.Callers.{filled, filled-step, filled-all, length-filled}
 use Rattle.book_settle.proofs.weights_of.Statement.{statement}
 use Rattle.book_settle.proofs.weights_of.Tie as tie
 

@@ -2,7 +2,7 @@
 use borrow.Author.Needs.{needs}
 use mathlib.Core.Path.{_∙_, sym, ap}
 use Prim.Native.Nat.{ℕ}
-use Rattle.calendar.proofs.Cases.{count-date, count-none}
+use Rattle.calendar.proofs.Answers.{count-date, count-none}
 use Rattle.calendar.proofs.day_count.Statement.{statement}
 use Rattle.calendar.proofs.day_count.Tie as tie
 

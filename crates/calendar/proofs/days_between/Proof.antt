@@ -6,8 +6,8 @@ use Prim.Native.Nat.{ℕ, _<_, _^_}
 use native.Mathlib.Omega.{arith}
 use lib.IntN.{ℤ, pos, _-ℤ_}
 use mir.Facts.{toZ-ofZ}
-use Rattle.calendar.proofs.Differences.{difference, difference-fits}
-use Rattle.calendar.proofs.Cases.{Counted, day-tells, no-date-tells, between-dates, between-none}
+use Rattle.general_laws.proofs.Differences.{difference, difference-fits}
+use Rattle.calendar.proofs.Answers.{Counted, day-tells, no-date-tells, between-dates, between-none}
 use Rattle.calendar.proofs.days_between.Statement.{statement}
 use Rattle.calendar.proofs.days_between.Tie as tie
 

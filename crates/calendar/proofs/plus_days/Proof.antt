@@ -5,7 +5,7 @@ use Prim.Native.Nat.{ℕ, _+_}
 use native.Mathlib.Omega.{arith}
 use Rattle.calendar.specs.Calendar.{firstDate, after}
 use Rattle.calendar.proofs.Counts.{from-first}
-use Rattle.calendar.proofs.Cases.{Counted, day-tells, no-date-tells, sum-date, sum-none, sum-beyond}
+use Rattle.calendar.proofs.Answers.{Counted, day-tells, no-date-tells, sum-date, sum-none, sum-beyond}
 use Rattle.calendar.proofs.plus_days.Statement.{statement}
 use Rattle.calendar.proofs.plus_days.Tie as tie
 

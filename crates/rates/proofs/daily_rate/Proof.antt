@@ -1,10 +1,9 @@
 -- The entry that is read is the daily rate, since every entry is.
 use borrow.Author.Needs.{needs}
 use native.Mathlib.Omega.{arith}
-use mathlib.Core.Path.{_≡_, sym, _∙_, ap}
+use mathlib.Core.Path.{sym, _∙_, ap}
 use Prim.Native.Nat.{ℕ, _≤_}
 use lib.ListN.{getD}
-use Rattle.rates.specs.Rate.{dailyOf}
 use Rattle.rates.proofs.DailyRates.{dailyRates}
 use Rattle.rates.proofs.Entries.{entry}
 use Rattle.rates.proofs.Laws.{greatest}

@@ -1,5 +1,5 @@
 -- The loop's invariant: the walk has come to `day` and the order at `at`; within a schedule the account is that of the days up to it.
-use Prim.Native.Nat.{ℕ, _+_, _-_, _≤_, _<_}
+use Prim.Native.Nat.{_+_, _-_, _≤_, _<_}
 use native.Mathlib.Omega.{arith}
 use mathlib.Core.Logic.{⊎-elim}
 use mathlib.Core.Path.{_≡_, refl, sym, _∙_}
@@ -7,13 +7,13 @@ use mathlib.Core.Bool.{true, false}
 use borrow.Author.Needs.{needs}
 use borrow.Author.Tests.{ltb-true, ltb-false, not-true, not-false}
 use lib.ListN.{length, take, getD}
+use Rattle.general_laws.proofs.Choice.{true-not-false}
 use Rattle.account.specs.Invariant.{Bounded}
 use Rattle.account.specs.Opening.{noOrder}
 use Rattle.account.specs.Ranges.{isNext, isSchedule}
 use Rattle.account.specs.Schedule.{storedOn}
 use Rattle.account.specs.Walk.{elapsed, Come}
 use Rattle.account.proofs.Bounds.{fits}
-use Rattle.account.proofs.Cases.{true-not-false}
 use Rattle.account.proofs.Segments.{elapsed-none}
 use Rattle.account.proofs.Walks.{no-next, come-next, gone, went}
 use Rattle.account.proofs.accrual.elapse.Statement.{statement}

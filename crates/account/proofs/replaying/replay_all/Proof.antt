@@ -1,19 +1,17 @@
 -- The loop's invariant: what is left to test and to replay, from the account and the day at hand, is what was asked at the start.
-use Prim.Native.Nat.{ℕ, _+_, _-_, _≤_, _<_}
+use Prim.Native.Nat.{ℕ, _+_, _-_, _≤_}
 use native.Mathlib.Omega.{arith}
 use mathlib.Core.Logic.{⊎-elim}
 use mathlib.Core.Path.{_≡_, refl, sym, subst, _∙_}
-use mathlib.Core.Bool.{Bool, true, false, cond}
-use mathlib.Core.List.{List}
+use mathlib.Core.Bool.{true, false, cond}
 use borrow.Author.Needs.{needs}
 use borrow.Author.Tests.{ltb-false, not-true, not-false}
 use lib.ListN.{length, take, drop, getD}
-use Rattle.account.specs.declared.Reckoned.{Reckoned}
 use Rattle.account.specs.declared.Reckoned.the-variants.{Standing, Overpaid, OutOfRange}
 use Rattle.account.specs.Invariant.{Fits, Bounded}
 use Rattle.account.specs.Opening.{opening, noSettlement}
 use Rattle.account.specs.Ranges.{isSchedule, isTimely}
-use Rattle.account.specs.Reckoning.{standing, replayed}
+use Rattle.account.specs.Reckoning.{replayed}
 use Rattle.account.specs.Schedule.{storedOn}
 use Rattle.account.specs.Walk.{Come, Gone, Went}
 use Rattle.account.proofs.Bounds.{bounded-opening, fits, bounded-paid}

@@ -4,9 +4,9 @@ use Prim.Native.Nat.{_+_, _-_}
 use native.Mathlib.Omega.{arith}
 use mathlib.Core.Path.{_≡_, ap, _∙_}
 use lib.ListN.{length}
-use Rattle.apportionment.specs.Sum.{listBelow}
+use Rattle.general_laws.specs.Sums.{listBelow}
+use Rattle.general_laws.proofs.Lists.{list-length, list-same}
 use Rattle.apportionment.specs.Steps.{above, equals, raised, withExtra}
-use Rattle.apportionment.proofs.Arrays.{list-length, list-same}
 use Rattle.apportionment.proofs.Threshold.{not-below-split, raised-most, raised-extra}
 use Rattle.apportionment.proofs.leftovers.hand_out.Statement.{statement}
 use Rattle.apportionment.proofs.leftovers.hand_out.Tie as tie

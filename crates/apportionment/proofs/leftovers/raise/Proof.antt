@@ -5,9 +5,9 @@ use borrow.Author.Needs.{needs}
 use mathlib.Core.Path.{_≡_, ap, _∙_}
 use mathlib.Core.List.{List}
 use lib.Dec.{leb}
-use Rattle.apportionment.specs.Sum.{listBelow}
+use Rattle.general_laws.specs.Sums.{listBelow}
+use Rattle.general_laws.proofs.Counts.{bit-most}
 use Rattle.apportionment.specs.Steps.{at, raised}
-use Rattle.apportionment.proofs.Cases.{bit-most}
 use Rattle.apportionment.proofs.Threshold.{raised-none, raised-at, raised-step}
 use Rattle.apportionment.proofs.leftovers.raise.Statement.{statement}
 use Rattle.apportionment.proofs.leftovers.raise.Tie as tie

@@ -3,10 +3,10 @@ use Prim.Native.Nat.{_-_, _≤_}
 use native.Mathlib.Omega.{arith}
 use mathlib.Core.Path.{_≡_, _∙_}
 use lib.ListN.{take}
-use Rattle.apportionment.specs.Sum.{sumBelow}
+use Rattle.general_laws.specs.Sums.{sumBelow}
+use Rattle.general_laws.proofs.Sums.{sum-none, sum-suc}
 use Rattle.apportionment.specs.Apportionment.{quotient, remainder, leftover, padded}
 use Rattle.apportionment.specs.Steps.{at}
-use Rattle.apportionment.proofs.Sums.{sum-none, sum-suc}
 use Rattle.apportionment.proofs.Arrays.{padded-none, padded-step}
 use Rattle.apportionment.proofs.Whole.{used-length, product-fits, quotient-is, remainder-is, remainder-fits, left-is}
 use Rattle.apportionment.proofs.quotients.divide.Statement.{statement}

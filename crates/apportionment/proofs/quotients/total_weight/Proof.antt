@@ -4,10 +4,10 @@ use native.Mathlib.Omega.{arith}
 use mathlib.Core.Path.{_≡_}
 use lib.ListN.{take}
 use borrow.Author.Tests.{lt-ltb, le-ltb}
-use Rattle.apportionment.specs.Sum.{sumBelow}
+use Rattle.general_laws.specs.Sums.{sumBelow}
+use Rattle.general_laws.proofs.Sums.{sum-none, sum-suc, sum-prefix}
 use Rattle.apportionment.specs.Apportionment.{totalWeight}
 use Rattle.apportionment.specs.Steps.{at, cappedTotal}
-use Rattle.apportionment.proofs.Sums.{sum-none, sum-suc, sum-prefix}
 use Rattle.apportionment.proofs.Arrays.{used-total}
 use Rattle.apportionment.proofs.quotients.total_weight.Statement.{statement}
 use Rattle.apportionment.proofs.quotients.total_weight.Tie as tie

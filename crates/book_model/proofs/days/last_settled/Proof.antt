@@ -6,11 +6,11 @@ use mathlib.Core.Path.{_≡_, sym, ap, _∙_}
 use mathlib.Core.List.{List}
 use lib.ListN.{length, take, getD}
 use lib.Seq.{take-suc}
+use Rattle.general_laws.proofs.Fronts.{take-in-use}
 use Rattle.account.specs.declared.Settlement.{Settlement}
 use Rattle.account.specs.Opening.{noSettlement}
 use Rattle.account.specs.Schedule.{lastDay}
 use Rattle.account.proofs.Callers.{last-joined}
-use Rattle.book_model.proofs.InUse.{take-in-use}
 use Rattle.book_model.proofs.days.last_settled.Statement.{statement}
 use Rattle.book_model.proofs.days.last_settled.Tie as tie
 

@@ -7,11 +7,11 @@ use mathlib.Core.List.{List}
 use borrow.Author.Needs.{needs}
 use lib.ListN.{length, take, drop}
 use lib.Seq.{length-take-le, drop-length}
+use Rattle.general_laws.proofs.Fronts.{take-in-use}
 use Rattle.book_model.specs.declared.Position.{Position}
 use Rattle.book_model.specs.Positions.{foundIn}
 use Rattle.book_model.specs.Outcome.{noPosition}
 use Rattle.book_model.specs.Positions.{place}
-use Rattle.book_model.proofs.InUse.{take-in-use}
 use Rattle.book_model.proofs.Places.{place-hit, place-miss, found-here, found-none}
 use Rattle.book_model.proofs.positions.find.Statement.{statement}
 use Rattle.book_model.proofs.positions.find.Tie as tie

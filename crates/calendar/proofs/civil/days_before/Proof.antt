@@ -5,7 +5,8 @@ use Prim.Native.Nat.{_-_}
 use native.Mathlib.Omega.{arith}
 use lib.ListN.{take}
 use borrow.Author.Needs.{needs}
-use Rattle.calendar.specs.Calendar.{monthLengths, sum}
+use Rattle.general_laws.specs.Sums.{total}
+use Rattle.calendar.specs.Calendar.{monthLengths}
 use Rattle.calendar.proofs.Lengths.{month-start}
 use Rattle.calendar.proofs.civil.days_before.Statement.{statement}
 use Rattle.calendar.proofs.civil.days_before.Tie as tie
@@ -28,7 +29,7 @@ array-read-result c = search needs
 returns : tie.Need-returns
 returns c =
     month-start true (c .before .before .args .month - 1) (omega arith)
-    ∙ ap (λ (leap : Bool). sum (take (c .before .before .args .month - 1) (monthLengths leap)))
+    ∙ ap (λ (leap : Bool). total (take (c .before .before .args .month - 1) (monthLengths leap)))
     (sym (c .if1 .taken) ∙ c .before .is-leap .ensures)
 
 mul-result-2 : tie.Need-mul-result-2
@@ -40,7 +41,7 @@ array-read-result-2 c = search needs
 returns-2 : tie.Need-returns-2
 returns-2 c =
     month-start false (c .before .before .args .month - 1) (omega arith)
-    ∙ ap (λ (leap : Bool). sum (take (c .before .before .args .month - 1) (monthLengths leap)))
+    ∙ ap (λ (leap : Bool). total (take (c .before .before .args .month - 1) (monthLengths leap)))
     (sym (c .if1 .left) ∙ c .before .is-leap .ensures)
 
 pub days-before-spec : {M : Type 1} → statement M

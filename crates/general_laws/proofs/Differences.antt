@@ -8,7 +8,7 @@ use lib.Signed.{mag}
 use mir.Syntax.{w64}
 use mir.Val.{SFits, toZ, ofZ}
 use mir.Facts.{toZ-pos, toZ-ofZ}
-use Rattle.calendar.proofs.Tests.{choice}
+use Rattle.general_laws.proofs.Choice.{choice}
 
 below : (a b n : ℕ) → a < n → b < n → mag (pos a -ℤ pos b) < n
 below a zero n h l = omega arith

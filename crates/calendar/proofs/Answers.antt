@@ -6,15 +6,14 @@ use Prim.Native.Nat.{ℕ, _+_, _<_}
 use native.Mathlib.Omega.{arith}
 use borrow.Author.Tests.{leb-true, leb-false, le-leb, lt-leb}
 use lib.Dec.{leb}
-use lib.IntN.{ℤ, pos, _-ℤ_}
+use lib.IntN.{pos, _-ℤ_}
+use Rattle.general_laws.proofs.Choice.{either-false}
 use Rattle.calendar.specs.declared.DayCount.{DayCount}
 use Rattle.calendar.specs.declared.DayCount.the-variants.{Day, NoDate}
 use Rattle.calendar.specs.declared.DateSum.{DateSum}
 use Rattle.calendar.specs.declared.DateSum.the-variants.{Date, Refused}
-use Rattle.calendar.specs.declared.DaysBetween.{DaysBetween}
-use Rattle.calendar.specs.declared.DaysBetween.the-variants.{Days, NotDates}
 use Rattle.calendar.specs.Calendar.{lastDate, isDate, after, dayCount}
-use Rattle.calendar.specs.Answers.{dateNumber, countStated, countOf, sumStated, sumOf, betweenStated, betweenOf}
+use Rattle.calendar.specs.Answers.{dateNumber, countStated, countOf, sumStated, sumOf, betweenOf}
 use Rattle.calendar.proofs.Counts.{last-count, count-within}
 
 -- an answer that a test decides
@@ -28,10 +27,6 @@ accepted {A} value none false e = let z : _≡_ {A = ℕ} 0 3 = ap (λ (r : ℕ 
 refused : {A : Type 0} (value none : A) (t : Bool) {v : A} → (dateNumber, v) ≡ answer value none t → t ≡ false
 refused {A} value none true e = let z : _≡_ {A = ℕ} 3 0 = ap (λ (r : ℕ × A). r .0) e in absurd (omega arith)
 refused value none false e = refl
-
-either-false : (s t : Bool) → s && t ≡ false → (s ≡ false) ⊎ (t ≡ false)
-either-false true t e = inr e
-either-false false t e = inl refl
 
 -- Day counts
 
@@ -101,11 +96,6 @@ module _ (x n : ℕ) where
 
 -- Days between dates
 
-pub record Apart (x y : ℕ) (n : ℤ) : Type 0 where
-  pub from-is-date : isDate x ≡ true
-  pub to-is-date : isDate y ≡ true
-  pub is-difference : n ≡ pos (dayCount y) -ℤ pos (dayCount x)
-
 module _ (x y : ℕ) where
   pub between-dates : isDate x ≡ true → isDate y ≡ true → betweenOf x y ≡ (0, pos (dayCount y) -ℤ pos (dayCount x))
   unfolding betweenOf
@@ -116,15 +106,3 @@ module _ (x y : ℕ) where
   between-none f =
       ap (λ (t : Bool). cond t (0, pos (dayCount y) -ℤ pos (dayCount x)) (dateNumber, pos 0))
       (⊎-elim (λ e. ap (λ (t : Bool). t && isDate y) e) (λ e. ap (λ (t : Bool). isDate x && t) e ∙ and-false (isDate x)) f)
-
-  pub days-tell : (n : ℤ) {r : DaysBetween} → r ≡ Days n → betweenStated r ≡ betweenOf x y → Apart x y n
-  unfolding betweenOf
-  days-tell n q e =
-      let told = accepted _ _ (isDate x && isDate y) (ap betweenStated (sym q) ∙ e) in
-      let both = and-eq-true-iff (isDate x) (isDate y) .0 (told .0) in
-      record { from-is-date = both .0; to-is-date = both .1; is-difference = told .1 }
-
-  pub not-dates-tell : {r : DaysBetween} → r ≡ NotDates → betweenStated r ≡ betweenOf x y → (isDate x ≡ false) ⊎ (isDate y ≡ false)
-  unfolding betweenOf
-  not-dates-tell q e =
-      either-false (isDate x) (isDate y) (refused _ _ (isDate x && isDate y) (ap betweenStated (sym q) ∙ e))

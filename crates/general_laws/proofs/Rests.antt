@@ -7,8 +7,8 @@ use mathlib.Core.List.{List, _∷_}
 use lib.ListN.{length, drop, getD}
 use lib.Seq.{drop-cons}
 use borrow.Author.Tests.{eq-eqb, ne-eqb}
-use Rattle.book_model.specs.Open.{all, distinct}
-use Rattle.book_model.specs.Positions.{total, among}
+use Rattle.general_laws.specs.Sums.{total}
+use Rattle.general_laws.specs.Members.{among, all, distinct}
 
 module _ (l : List ℕ) (i : ℕ) (lt : i < length l) where
   at-head : drop i l ≡ getD l i 0 ∷ drop (i + 1) l
