@@ -99,10 +99,26 @@ enum-known-answer c = search needs
 enum-told : tie.Need-enum-told
 enum-told c = search needs
 
+-- The way back to where days pass, from each place by the one before it
+abbrev by-answer : tie.After-known-told → tie.After-passing
+by-answer c = c .before .before .before
+
+abbrev by-today : tie.After-today → tie.After-known-told
+by-today c = c .before .before .before
+
+abbrev by-days : tie.After-struct-known2 → tie.After-known-told
+by-days c = by-today (c .before .before)
+
+abbrev by-accrue : tie.After-accrue → tie.After-known-told
+by-accrue c = by-days (c .before .before)
+
+abbrev by-held : tie.After-hold-days → tie.After-accrue
+by-held c = c .before .before
+
 -- What is known where days pass
 module _ (c : tie.After-known-told) where
   abbrev start : tie.Start
-  start = c .before .before .before .before
+  start = by-answer c .before
 
   abbrev days : Day
   days = c .before .answer .given .0 .0
@@ -111,7 +127,7 @@ module _ (c : tie.After-known-told) where
   is-sound = sound (start .args .book) (start .pre)
 
   is-answer : answered days ≡ advanced (start .args .book) (start .args .date) .answer
-  is-answer = ap advanceCase (sym (c .before .answer .given .1)) ∙ c .before .before .before .passing .ensures
+  is-answer = ap advanceCase (sym (c .before .answer .given .1)) ∙ by-answer c .passing .ensures
 
   open-known : OpenSound (start .args .book)
   open-known = known (start .args .book) (start .args .date) is-sound days is-answer
@@ -136,35 +152,36 @@ module _ (c : tie.After-known-told) where
   days-known = days-most (start .args .book) (start .args .date) is-sound days is-answer
 
 add-end : tie.Need-add-end
-add-end c = omega (arith, end-known (c .before .before .before .before .before))
+add-end c = omega (arith, end-known (by-days c))
 
 sub-order : tie.Need-sub-order
-sub-order c = some-order (c .before .before .before .before .before)
+sub-order c = some-order (by-days c)
 
 mul-order : tie.Need-mul-order
-mul-order c = let k = c .before .before .before .before .before in omega (arith, open-known k .rates-most)
+mul-order c = omega (arith, open-known (by-days c) .rates-most)
 
 array-copy-out-order : tie.Need-array-copy-out-order
-array-copy-out-order c = let k = c .before .before .before .before .before in omega (arith, some-order k, open-known k .rates-most)
+array-copy-out-order c = let k = by-days c in omega (arith, some-order k, open-known k .rates-most)
 
 accrue-requires : tie.Need-accrue-requires
 accrue-requires c κs =
-    let k = c .before .before .before .before .before .before in
+    let k = by-days (c .before) in
     let was = open-known k in
     (fits _ _ (omega (arith, was .within-term, was .term-most)) (was .bounded), (last-daily k, omega (arith, days-known k)))
 
 hold-days-requires : tie.Need-hold-days-requires
 hold-days-requires c κs =
-    let k = c .before .before .before .before .before .before .before .before in
+    let k = by-accrue (c .before) in
     let was = open-known k in
     ((was .positions-most, days-known k), (omega (arith, was .days-held, was .settlement-near), omega (arith, was .shares-whole)))
 
 returns : tie.Need-returns
 unfolding withToday withAccount
 returns c =
-    let k = c .before .before .before .before .before .before .before .before .before .before in
+    let a = by-held (c .before) in
+    let k = by-accrue a in
     accepted (start k .args .book) (start k .args .date) (is-sound k) (days k) (is-answer k) _ _ (c .before .hold-days .ensures)
-    (c .before .before .before .accrue .ensures
+    (a .accrue .ensures
     ∙ last-elapses (start k .args .book .rated) (start k .args .book .rates) (start k .args .book .today .0) (days k .0) (start k .args .book .account)
     (open-known k .priced) (open-known k .from-start) (open-known k .begun) (orders-fit k))
 

@@ -58,6 +58,10 @@ Inv-loop count days next₀ i₀ next i =
 abbrev μ-loop : tie.MeasureT-loop
 μ-loop count days next₀ i₀ next i = count - i
 
+-- The way back from a turn's end to the loop's head
+abbrev by-turn : tie.After-held-for Inv-loop μ-loop → tie.At-loop Inv-loop μ-loop
+by-turn c = c .before .before .before
+
 loop-holds : tie.Need-loop-holds Inv-loop μ-loop
 loop-holds c = (omega arith, search needs, refl)
 
@@ -77,21 +81,21 @@ held-for-requires c κs =
     (rw same (unit-days-most qs (s .pre .1 .0) (l .i)), rw same (share-most qs (s .pre .1 .1) (l .i)), s .pre .0 .1)
 
 mul-next : tie.Need-mul-next Inv-loop μ-loop
-mul-next c = omega (arith, c .before .before .before .before .pre .0)
+mul-next c = omega (arith, by-turn c .before .pre .0)
 
 array-set-from-next : tie.Need-array-set-from-next Inv-loop μ-loop
-array-set-from-next c = omega (arith, c .before .before .before .before .pre .0)
+array-set-from-next c = omega (arith, by-turn c .before .pre .0)
 
 add-i : tie.Need-add-i Inv-loop μ-loop
-add-i c = omega (arith, c .before .before .before .before .pre .0)
+add-i c = omega (arith, by-turn c .before .pre .0)
 
 loop-less : tie.Need-loop-less Inv-loop μ-loop
 loop-less c = omega arith
 
 loop-again : tie.Need-loop-again Inv-loop μ-loop
 loop-again c =
-    let s = c .before .before .before .before in
-    let l = c .before .before .before .loop in (
+    let s = by-turn c .before in
+    let l = by-turn c .loop in (
       omega arith,
       l .inv .1,
       gained (s .args .days .0) (s .args .count) (s .args .positions) (omega (arith, s .pre .0)) (l .next) (l .i) (l .inv .2) (omega arith)

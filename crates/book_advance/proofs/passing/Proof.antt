@@ -26,11 +26,19 @@ module _ (b : Book) (date : ℕ) where
   unfolding advanced
   to-date e count told = rw (e, told .is-date, told .is-count)
 
-counted : (c : tie.After-known-told) → Counted (c .before .before .before .before .before .args .date) (c .before .count .given .0 .0)
-counted c = day-tells _ _ (c .before .count .given .1) (c .before .before .before .day-count .ensures)
+-- The way back to the date's reading
+abbrev by-told : tie.After-known-told → tie.After-day-count
+by-told c = c .before .before .before
+
+-- the book is open, and the date has this count
+is-open : (c : tie.After-day-count) → c .before .before .args .book .opened ≡ true
+is-open c = not-false _ (c .before .if1 .left)
+
+counted : (c : tie.After-known-told) → Counted (by-told c .before .before .args .date) (c .before .count .given .0 .0)
+counted c = day-tells _ _ (c .before .count .given .1) (by-told c .day-count .ensures)
 
 returns : tie.Need-returns
-returns c = unopened (c .before .args .book) (c .before .args .date) (not-true _ (c .if1 .taken))
+returns c = unopened _ _ (not-true _ (c .if1 .taken))
 
 day-count-requires : tie.Need-day-count-requires
 day-count-requires c κs = search needs
@@ -40,24 +48,19 @@ enum-known-count c = search needs
 
 passing-to-requires : tie.Need-passing-to-requires
 passing-to-requires c κs =
-    let start = c .before .before .before .before .before in
-    (start .pre, (not-false _ (c .before .before .before .before .if1 .left), counted c .within))
+    let k = by-told c in
+    (k .before .before .pre, (is-open k, counted c .within))
 
 enum-told : tie.Need-enum-told
 enum-told c = search needs
 
 returns-2 : tie.Need-returns-2
-returns-2 c =
-    let start = c .before .before .before .before .before .before in
-    c .passing-to .ensures
-    ∙ to-date (start .args .book) (start .args .date) (not-false _ (c .before .before .before .before .before .if1 .left)) _
-    (counted (c .before))
+returns-2 c = c .passing-to .ensures ∙ to-date _ _ (is-open (by-told (c .before))) _ (counted (c .before))
 
 returns-3 : tie.Need-returns-3
 returns-3 c =
-    let start = c .before .before .before .before in
-    no-date (start .args .book) (start .args .date) (not-false _ (c .before .before .before .if1 .left))
-    (no-date-tells _ (c .enum-told .given .1) (c .before .before .day-count .ensures))
+    let k = c .before .before in
+    no-date _ _ (is-open k) (no-date-tells _ (c .enum-told .given .1) (k .day-count .ensures))
 
 pub passing-spec : {M : Type 1} → statement M
 passing-spec =

@@ -48,6 +48,16 @@ module _ (b : Book) (count first : ℕ) (e : first ≡ dayCount (b .first)) wher
           le-ltb (first + (lastSettled b + 92)) count le,
         )
 
+-- The way back to the first day's count, from each place by the one before it
+abbrev by-today : tie.After-struct-known → tie.After-count-of
+by-today c = c .before
+
+abbrev by-term : tie.After-struct-known2 → tie.After-count-of
+by-term c = by-today (c .before .before)
+
+abbrev by-last : tie.After-last-settled → tie.After-count-of
+by-last c = by-term (c .before .before .before)
+
 -- What the start knows
 module _ (s : tie.Start) where
   known : OpenSound (s .args .book)
@@ -74,56 +84,47 @@ first-is c = c .count-of .ensures ∙ ap (λ (answer : ℕ × ℕ). answer .1) (
 
 add-today : tie.Need-add-today
 add-today c =
-    let start = c .before .before in
-    omega (arith, first-is (c .before), first-most start, today-most start, term-most start)
+    let k = by-today c in
+    let s = k .before in
+    omega (arith, first-is k, first-most s, today-most s, term-most s)
 
 returns : tie.Need-returns
-returns c =
-    let start = c .before .before .before in
-    let first = c .before .before in
-    not-after-today (start .args .book) (start .args .count) (first .count-of .result) (first-is first) (omega arith)
+returns c = not-after-today _ _ _ (first-is (by-today (c .before))) (omega arith)
 
 add-if2 : tie.Need-add-if2
 add-if2 c =
-    let start = c .before .before .before .before in
-    omega (arith, first-is (c .before .before .before), first-most start, term-most start)
+    let k = by-term c in
+    omega (arith, first-is k, first-most (k .before), term-most (k .before))
 
 returns-2 : tie.Need-returns-2
-returns-2 c =
-    let start = c .before .before .before .before .before in
-    let first = c .before .before .before .before in
-    after-term (start .args .book) (start .args .count) (first .count-of .result) (first-is first) (omega arith)
+returns-2 c = after-term _ _ _ (first-is (by-term (c .before))) (omega arith)
 
 last-settled-requires : tie.Need-last-settled-requires
 last-settled-requires c κs = search needs
 
 add-if3 : tie.Need-add-if3
 add-if3 c =
-    let start = c .before .before .before .before .before .before .before .before in
-    omega (arith, c .before .last-settled .ensures, last-most start, today-most start, term-most start)
+    let s = by-last (c .before) .before in
+    omega (arith, c .before .last-settled .ensures, last-most s, today-most s, term-most s)
 
 add-if3-2 : tie.Need-add-if3-2
 add-if3-2 c =
-    let start = c .before .before .before .before .before .before .before .before in
-    let first = c .before .before .before .before .before .before .before in
-    omega (arith, first-is first, c .before .last-settled .ensures, first-most start, last-most start, today-most start, term-most start)
+    let k = by-last (c .before) in
+    let s = k .before in
+    omega (arith, first-is k, c .before .last-settled .ensures, first-most s, last-most s, today-most s, term-most s)
 
 returns-3 : tie.Need-returns-3
 returns-3 c =
-    let start = c .before .before .before .before .before .before .before .before .before in
-    let first = c .before .before .before .before .before .before .before .before in
-    settlement-pending (start .args .book) (start .args .count) (first .count-of .result) (first-is first) (omega arith) (omega arith)
-    (omega (arith, c .before .before .last-settled .ensures))
+    let k = c .before .before in
+    settlement-pending _ _ _ (first-is (by-last k)) (omega arith) (omega arith) (omega (arith, k .last-settled .ensures))
 
 sub-t9 : tie.Need-sub-t9
 sub-t9 c = search needs
 
 returns-4 : tie.Need-returns-4
 returns-4 c =
-    let start = c .before .before .before .before .before .before .before .before .before in
-    let first = c .before .before .before .before .before .before .before .before in
-    passes (start .args .book) (start .args .count) (first .count-of .result) (first-is first) (omega arith) (omega arith)
-    (omega (arith, c .before .before .last-settled .ensures))
+    let k = c .before .before in
+    passes _ _ _ (first-is (by-last k)) (omega arith) (omega arith) (omega (arith, k .last-settled .ensures))
 
 pub passing-to-spec : {M : Type 1} → statement M
 passing-to-spec =

@@ -14,6 +14,10 @@ Inv-loop holders i₀ i = distinct holders ≡ distinct (drop i holders)
 abbrev μ-loop : tie.MeasureT-loop
 μ-loop holders i₀ i = length holders - i
 
+-- The way back from a holder's test to the loop's head
+abbrev by-repeats : tie.After-repeats Inv-loop μ-loop → tie.At-loop Inv-loop μ-loop
+by-repeats c = c .before .before
+
 loop-holds : tie.Need-loop-holds Inv-loop μ-loop
 loop-holds c = refl
 
@@ -22,8 +26,8 @@ repeats-requires c κs = omega arith
 
 returns : tie.Need-returns Inv-loop μ-loop
 returns c =
-    let l = c .before .before .before .loop in
-    let hs = c .before .before .before .before .before .args .holders .now in
+    let l = by-repeats (c .before) .loop in
+    let hs = by-repeats (c .before) .before .before .args .holders .now in
     sym (l .inv ∙ distinct-failed hs (l .i) (omega arith) (sym (c .before .repeats .ensures) ∙ c .if1 .taken))
 
 add-i : tie.Need-add-i Inv-loop μ-loop
@@ -34,8 +38,8 @@ loop-less c = omega arith
 
 loop-again : tie.Need-loop-again Inv-loop μ-loop
 loop-again c =
-    let l = c .before .before .before .loop in
-    let hs = c .before .before .before .before .before .args .holders .now in
+    let l = by-repeats (c .before) .loop in
+    let hs = by-repeats (c .before) .before .before .args .holders .now in
     l .inv ∙ distinct-passed hs (l .i) (omega arith) (sym (c .before .repeats .ensures) ∙ c .if1 .left)
 
 returns-2 : tie.Need-returns-2 Inv-loop μ-loop

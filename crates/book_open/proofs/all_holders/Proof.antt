@@ -17,6 +17,10 @@ Inv-loop holders i₀ i = all isHolder holders ≡ all isHolder (drop i holders)
 abbrev μ-loop : tie.MeasureT-loop
 μ-loop holders i₀ i = length holders - i
 
+-- The way back from a holder's test to the loop's head
+abbrev by-holder : tie.After-is-holder Inv-loop μ-loop → tie.At-loop Inv-loop μ-loop
+by-holder c = c .before .before .before
+
 loop-holds : tie.Need-loop-holds Inv-loop μ-loop
 loop-holds c = refl
 
@@ -31,8 +35,8 @@ is-holder-requires c κs = search needs
 
 returns : tie.Need-returns Inv-loop μ-loop
 returns c =
-    let l = c .before .before .before .before .loop in
-    let hs = c .before .before .before .before .before .before .args .holders .now in
+    let l = by-holder (c .before) .loop in
+    let hs = by-holder (c .before) .before .before .args .holders .now in
     sym (l .inv ∙ all-failed hs (l .i) (omega arith) isHolder (sym (c .before .is-holder .ensures) ∙ not-true (c .before .is-holder .result) (c .if1 .taken)))
 
 add-i : tie.Need-add-i Inv-loop μ-loop
@@ -43,8 +47,8 @@ loop-less c = omega arith
 
 loop-again : tie.Need-loop-again Inv-loop μ-loop
 loop-again c =
-    let l = c .before .before .before .before .loop in
-    let hs = c .before .before .before .before .before .before .args .holders .now in
+    let l = by-holder (c .before) .loop in
+    let hs = by-holder (c .before) .before .before .args .holders .now in
     l .inv ∙ all-passed hs (l .i) (omega arith) isHolder (sym (c .before .is-holder .ensures) ∙ not-false (c .before .is-holder .result) (c .if1 .left))
 
 returns-2 : tie.Need-returns-2 Inv-loop μ-loop

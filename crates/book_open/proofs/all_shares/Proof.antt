@@ -16,6 +16,10 @@ Inv-loop shares i₀ i = all isShare shares ≡ all isShare (drop i shares)
 abbrev μ-loop : tie.MeasureT-loop
 μ-loop shares i₀ i = length shares - i
 
+-- The way back from a share's test to the loop's head
+abbrev by-share : tie.After-shared-slice-known Inv-loop μ-loop → tie.At-loop Inv-loop μ-loop
+by-share c = c .before .before
+
 loop-holds : tie.Need-loop-holds Inv-loop μ-loop
 loop-holds c = refl
 
@@ -27,8 +31,8 @@ shared-slice-read-if1 c = omega arith
 
 returns : tie.Need-returns Inv-loop μ-loop
 returns c =
-    let l = c .before .before .before .loop in
-    let ss = c .before .before .before .before .args .shares .now in
+    let l = by-share (c .before) .loop in
+    let ss = by-share (c .before) .before .args .shares .now in
     sym (l .inv ∙ all-failed ss (l .i) (omega arith) isShare (simp (eq-eqb _ _ (c .if1 .taken))))
 
 add-i : tie.Need-add-i Inv-loop μ-loop
@@ -39,8 +43,8 @@ loop-less c = omega arith
 
 loop-again : tie.Need-loop-again Inv-loop μ-loop
 loop-again c =
-    let l = c .before .before .before .loop in
-    let ss = c .before .before .before .before .args .shares .now in
+    let l = by-share (c .before) .loop in
+    let ss = by-share (c .before) .before .args .shares .now in
     l .inv ∙ all-passed ss (l .i) (omega arith) isShare (simp (ne-eqb _ _ (c .if1 .left)))
 
 returns-2 : tie.Need-returns-2 Inv-loop μ-loop

@@ -1,4 +1,4 @@
--- Each answer by the tests that led to it.
+-- The specification's six tests in its order; where all pass, the sum of the shares decides.
 use borrow.Author.Needs.{needs}
 use borrow.Author.Tests.{not-true, not-false}
 use native.Mathlib.Omega.{arith}
@@ -11,15 +11,21 @@ use Rattle.book_model.proofs.Callers.{unequal-lengths, no-holder, too-many-hold
 use Rattle.book_open.proofs.is_financing.Statement.{statement}
 use Rattle.book_open.proofs.is_financing.Tie as tie
 
--- The call's arguments behind a test that has passed, and what the test tells of them
+-- The way back to the start, from each place by the one before it
+abbrev by-lengths : tie.Else1 → tie.Start
+by-lengths c = c .before .before .before
 
-abbrev from-right : tie.Else4 → tie.Start
-from-right c = c .before .before .before .before .before .before .before
+abbrev by-number : tie.Else3 → tie.Start
+by-number c = by-lengths (c .before .before)
 
-right : (c : tie.Else4) → all isHolder (from-right c .args .holders .now) ≡ true
+abbrev by-holders : tie.Else4 → tie.Start
+by-holders c = by-number (c .before .before)
+
+-- what the tests that have passed tell of the holders
+right : (c : tie.Else4) → all isHolder (by-holders c .args .holders .now) ≡ true
 right c = sym (c .before .all-holders .ensures) ∙ not-false (c .before .all-holders .result) (c .if4 .left)
 
-once : (c : tie.Else5) → distinct (from-right (c .before .before) .args .holders .now) ≡ true
+once : (c : tie.Else5) → distinct (by-holders (c .before .before) .args .holders .now) ≡ true
 once c = sym (c .before .all-distinct .ensures) ∙ not-false (c .before .all-distinct .result) (c .if5 .left)
 
 returns : tie.Need-returns

@@ -1,4 +1,4 @@
--- Each answer by the tests that led to it.
+-- An amount of 0 is none; of any other, the bound decides.
 use borrow.Author.Tests.{eq-eqb, ne-eqb}
 use native.Mathlib.Omega.{arith}
 use Rattle.book_open.proofs.is_recognised.Statement.{statement}

@@ -17,6 +17,10 @@ Inv-loop holders shares next₀ count i₀ next i =
 abbrev μ-loop : tie.MeasureT-loop
 μ-loop holders shares next₀ count i₀ next i = count - i
 
+-- The way back from a turn's end to the loop's head
+abbrev by-turn : tie.After-shared-slice-known2 Inv-loop μ-loop → tie.At-loop Inv-loop μ-loop
+by-turn c = c .before .before .before
+
 loop-holds : tie.Need-loop-holds Inv-loop μ-loop
 loop-holds c = (omega arith, refl)
 
@@ -49,8 +53,8 @@ loop-less c = omega arith
 
 loop-again : tie.Need-loop-again Inv-loop μ-loop
 loop-again c =
-    let s = c .before .before .before .before in
-    let l = c .before .before .before .loop in
+    let s = by-turn c .before in
+    let l = by-turn c .loop in
     let hs = s .args .holders .now in
     let ss = s .args .shares .now in
     let lengths : length hs ≡ length ss = omega arith in

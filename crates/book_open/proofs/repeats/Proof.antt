@@ -14,6 +14,10 @@ Inv-loop holders at holder i₀ i = among holder (drop (at + 1) holders) ≡ amo
 abbrev μ-loop : tie.MeasureT-loop
 μ-loop holders at holder i₀ i = length holders - i
 
+-- The way back from a test to the loop's head
+abbrev by-test : tie.After-shared-slice-known2 Inv-loop μ-loop → tie.At-loop Inv-loop μ-loop
+by-test c = c .before .before
+
 mul-holder : tie.Need-mul-holder Inv-loop μ-loop
 mul-holder c = omega arith
 
@@ -34,8 +38,8 @@ shared-slice-read-if1 c = omega arith
 
 returns : tie.Need-returns Inv-loop μ-loop
 returns c =
-    let l = c .before .before .before .loop in
-    let hs = c .before .before .before .before .before .args .holders .now in
+    let l = by-test (c .before) .loop in
+    let hs = by-test (c .before) .before .before .args .holders .now in
     sym (l .inv ∙ among-here hs (l .i) (omega arith) _ (c .if1 .taken))
 
 add-i-2 : tie.Need-add-i-2 Inv-loop μ-loop
@@ -46,8 +50,8 @@ loop-less c = omega arith
 
 loop-again : tie.Need-loop-again Inv-loop μ-loop
 loop-again c =
-    let l = c .before .before .before .loop in
-    let hs = c .before .before .before .before .before .args .holders .now in
+    let l = by-test (c .before) .loop in
+    let hs = by-test (c .before) .before .before .args .holders .now in
     l .inv ∙ among-later hs (l .i) (omega arith) _ (c .if1 .left)
 
 returns-2 : tie.Need-returns-2 Inv-loop μ-loop

@@ -9,6 +9,13 @@ use Rattle.book_model.specs.Outcome.{answered}
 use Rattle.book_rate.proofs.changes.Statement.{statement}
 use Rattle.book_rate.proofs.changes.Tie as tie
 
+-- The way back to the start, from the second difference by the first
+abbrev by-outstanding : tie.After-struct-known2 → tie.Start
+by-outstanding c = c .before .before
+
+abbrev by-due : tie.After-struct-known4 → tie.Start
+by-due c = by-outstanding (c .before .before)
+
 cast-outstanding : tie.Need-cast-outstanding
 cast-outstanding c = search needs
 
@@ -17,7 +24,7 @@ cast-outstanding-2 c = search needs
 
 sub-outstanding : tie.Need-sub-outstanding
 sub-outstanding c =
-    let s = c .before .before in
+    let s = by-outstanding c in
     let before : s .args .before .outstanding .0 < 2 ^ 63 = omega (arith, s .pre .0) in
     let after : s .args .after .outstanding .0 < 2 ^ 63 = omega (arith, s .pre .1) in
     search difference-fits
@@ -30,14 +37,14 @@ cast-due-2 c = search needs
 
 sub-due : tie.Need-sub-due
 sub-due c =
-    let s = c .before .before .before .before in
+    let s = by-due c in
     let before : s .args .before .due .0 < 2 ^ 63 = omega (arith, s .pre .0) in
     let after : s .args .after .due .0 < 2 ^ 63 = omega (arith, s .pre .1) in
     search difference-fits
 
 returns : tie.Need-returns
 returns c =
-    let s = c .before .before .before .before in
+    let s = by-due c in
     ap₂ (λ (o d : ℤ). answered (record { outstanding = record { 0 = o }; due = record { 0 = d } }))
     (difference-is (s .args .after .outstanding .0) (s .args .before .outstanding .0) (omega (arith, s .pre)) (omega (arith, s .pre)))
     (difference-is (s .args .after .due .0) (s .args .before .due .0) (omega (arith, s .pre)) (omega (arith, s .pre)))

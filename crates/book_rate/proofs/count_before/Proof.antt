@@ -1,4 +1,4 @@
--- `count_before` meets its contract. The loop's invariant: the count so far, with the orders that remain, gives the whole count.
+-- The loop's invariant: the count so far, with the orders that remain, gives the whole count.
 use Prim.Native.Nat.{ℕ, _+_, _-_, _≤_, _<_}
 use native.Mathlib.Omega.{arith}
 use mathlib.Core.Logic.{⊎-elim}
@@ -40,6 +40,10 @@ Inv-loop rated day rates count₀ i₀ count i =
 abbrev μ-loop : tie.MeasureT-loop
 μ-loop rated day rates count₀ i₀ count i = rated - i
 
+-- The way back from a turn's end to the loop's head
+abbrev by-turn : tie.Joined1 Inv-loop μ-loop → tie.At-loop Inv-loop μ-loop
+by-turn c = c .before .before .before
+
 room : (c : tie.Start Inv-loop μ-loop) → length (c .args .t1) ≡ 16
 room c = search needs
 
@@ -63,8 +67,8 @@ loop-less c = omega arith
 
 loop-again : tie.Need-loop-again Inv-loop μ-loop
 loop-again c =
-    let s = c .before .before .before .before in
-    let l = c .before .before .before .loop in
+    let s = by-turn c .before in
+    let l = by-turn c .loop in
     let fits : s .args .rated ≤ length (s .args .t1) = omega (arith, room s) in
     let turn = counted (s .args .t1) (s .args .rated) (l .i) (s .args .day .0) fits (l .count) _ (l .inv .2) in
     let pass = passed-over (s .args .t1) (s .args .rated) (l .i) (s .args .day .0) fits (l .count) _ (l .inv .2) in

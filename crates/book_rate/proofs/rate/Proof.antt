@@ -34,16 +34,23 @@ module _ (b : Book) (date annual : ℕ) where
       unfolding rated
       from-date le = rw (is-open, told .is-date, le-ltb 4000 annual le, told .is-count)
 
-counted : (c : tie.After-known-told) → Counted (c .before .before .before .before .before .args .date) (c .before .count .given .0 .0)
-counted c = day-tells _ _ (c .before .count .given .1) (c .before .before .before .day-count .ensures)
+-- The way back to the date's reading
+abbrev by-told : tie.After-known-told → tie.After-day-count
+by-told c = c .before .before .before
+
+-- the book is open, and the date has this count
+open-there : (c : tie.After-day-count) → c .before .before .args .book .opened ≡ true
+open-there c = not-false _ (c .before .if1 .left)
+
+counted : (c : tie.After-known-told) → Counted (by-told c .before .before .args .date) (c .before .count .given .0 .0)
+counted c = day-tells _ _ (c .before .count .given .1) (by-told c .day-count .ensures)
 
 refused-requires : tie.Need-refused-requires
 refused-requires c κs = search needs
 
 returns : tie.Need-returns
 returns c =
-    let s = c .before .before in
-    c .refused .ensures ∙ unopened (s .args .book) (s .args .date) (s .args .annual) (not-true _ (c .before .if1 .taken))
+    c .refused .ensures ∙ unopened _ _ _ (not-true _ (c .before .if1 .taken))
 
 day-count-requires : tie.Need-day-count-requires
 day-count-requires c κs = search needs
@@ -59,10 +66,8 @@ refused-requires-2 c κs = search needs
 
 returns-2 : tie.Need-returns-2
 returns-2 c =
-    let s = c .before .before .before .before .before in
-    c .refused2 .ensures
-    ∙ no-date (s .args .book) (s .args .date) (s .args .annual) (not-false _ (c .before .before .before .before .if1 .left))
-    (no-date-tells _ (c .before .enum-told .given .1) (c .before .before .before .day-count .ensures))
+    let k = c .before .before .before in
+    c .refused2 .ensures ∙ no-date _ _ _ (open-there k) (no-date-tells _ (c .before .enum-told .given .1) (k .day-count .ensures))
 
 refused-requires-3 : tie.Need-refused-requires-3
 refused-requires-3 c κs = search needs
@@ -70,24 +75,17 @@ refused-requires-3 c κs = search needs
 returns-3 : tie.Need-returns-3
 returns-3 c =
     let k = c .before .before in
-    let s = k .before .before .before .before .before in
-    c .refused3 .ensures
-    ∙ over (s .args .book) (s .args .date) (s .args .annual) (not-false _ (k .before .before .before .before .if1 .left)) _ (counted k)
-    (omega arith)
+    c .refused3 .ensures ∙ over _ _ _ (open-there (by-told k)) _ (counted k) (omega arith)
 
 rate-from-requires : tie.Need-rate-from-requires
 rate-from-requires c κs =
-    let k = c .before in
-    let s = k .before .before .before .before .before in
-    (sound (s .args .book) (s .pre), (not-false _ (k .before .before .before .before .if1 .left), omega arith))
+    let k = by-told (c .before) in
+    (sound _ (k .before .before .pre), (open-there k, omega arith))
 
 returns-4 : tie.Need-returns-4
 returns-4 c =
     let k = c .before .before in
-    let s = k .before .before .before .before .before in
-    c .rate-from .ensures
-    ∙ from-date (s .args .book) (s .args .date) (s .args .annual) (not-false _ (k .before .before .before .before .if1 .left)) _ (counted k)
-    (omega arith)
+    c .rate-from .ensures ∙ from-date _ _ _ (open-there (by-told k)) _ (counted k) (omega arith)
 
 pub rate-spec : {M : Type 1} → statement M
 rate-spec =

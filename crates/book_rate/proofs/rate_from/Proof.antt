@@ -52,6 +52,19 @@ module _ (b : Book) (count annual first : ℕ) (e : first ≡ dayCount (b .first
           lt-leb 16 (length (startingBefore (count - first) (ratesOf b))) lt,
         )
 
+-- The way back to the first day's count, from each place by the one before it
+abbrev by-today : tie.After-struct-known → tie.After-count-of
+by-today c = c .before .before
+
+abbrev by-rates : tie.After-rates → tie.After-count-of
+by-rates c = by-today (c .before .before)
+
+abbrev by-before : tie.After-count-before → tie.After-count-of
+by-before c = by-rates (c .before)
+
+abbrev by-daily : tie.After-daily-rate → tie.After-count-before
+by-daily c = c .before .before
+
 known : (s : tie.Start) → OpenSound (s .args .book)
 known s = s .pre .0 .when-open (s .pre .1 .0)
 
@@ -67,18 +80,16 @@ refused-requires c κs = search needs
 
 returns : tie.Need-returns
 returns c =
-    let s = c .before .before .before in
-    let first = c .before .before in
-    c .refused .ensures ∙ before-first (s .args .book) (s .args .count) (s .args .annual) (first .count-of .result) (first-is first) (omega arith)
+    c .refused .ensures ∙ before-first _ _ _ _ (first-is (c .before .before)) (omega arith)
 
 add-if2 : tie.Need-add-if2
 add-if2 c =
-    let s = c .before .before .before in
-    let b = s .args .book in
+    let k = by-today c in
+    let s = k .before in
     omega (
       arith,
-      first-is (c .before .before),
-      laws .count-within (b .first) (known s .first-date),
+      first-is k,
+      laws .count-within (s .args .book .first) (known s .first-date),
       known s .within-term,
       known s .term-most,
     )
@@ -88,45 +99,40 @@ refused-requires-2 c κs = search needs
 
 returns-2 : tie.Need-returns-2
 returns-2 c =
-    let s = c .before .before .before .before .before in
-    let first = c .before .before .before .before in
-    c .refused2 .ensures ∙ after-today (s .args .book) (s .args .count) (s .args .annual) (first .count-of .result) (first-is first) (omega arith)
+    c .refused2 .ensures ∙ after-today _ _ _ _ (first-is (by-today (c .before .before))) (omega arith)
 
 count-before-requires : tie.Need-count-before-requires
-count-before-requires c κs = known (c .before .before .before .before .before) .rates-most
+count-before-requires c κs = known (by-rates c .before) .rates-most
 
 refused-requires-3 : tie.Need-refused-requires-3
 refused-requires-3 c κs = search needs
 
 returns-3 : tie.Need-returns-3
 returns-3 c =
-    let s = c .before .before .before .before .before .before .before .before in
-    let first = c .before .before .before .before .before .before .before in
+    let k = c .before .before in
     c .refused3 .ensures
-    ∙ full (s .args .book) (s .args .count) (s .args .annual) (first .count-of .result) (first-is first) (omega arith) (omega arith)
-    (omega (arith, c .before .before .count-before .ensures))
+    ∙ full _ _ _ _ (first-is (by-before k)) (omega arith) (omega arith) (omega (arith, k .count-before .ensures))
 
 daily-rate-requires : tie.Need-daily-rate-requires
 daily-rate-requires c κs = search needs
 
 -- the rate is not over, so its daily rate is the table's
-daily-is : (c : tie.After-daily-rate) → c .daily-rate .result ≡ dailyOf (c .before .before .before .before .before .before .before .before .args .annual)
+daily-is : (c : tie.After-daily-rate) → c .daily-rate .result ≡ dailyOf (by-before (by-daily c) .before .args .annual)
 daily-is c =
-    let s = c .before .before .before .before .before .before .before .before in
+    let s = by-before (by-daily c) .before in
     c .daily-rate .ensures ∙ ap (λ (answer : ℕ × ℕ). answer .1) (accepted (s .args .annual) (s .pre .1 .1))
 
 revise-requires : tie.Need-revise-requires
 revise-requires c κs =
-    let s = c .before .before .before .before .before .before .before .before in
-    (s .pre .0, (s .pre .1 .0, ((s .pre .1 .1, daily-is c, omega arith), omega (arith, c .before .before .count-before .ensures))))
+    let k = by-daily c in
+    let s = by-before k .before in
+    (s .pre .0, (s .pre .1 .0, ((s .pre .1 .1, daily-is c, omega arith), omega (arith, k .count-before .ensures))))
 
 returns-4 : tie.Need-returns-4
 returns-4 c =
-    let s = c .before .before .before .before .before .before .before .before .before in
-    let first = c .before .before .before .before .before .before .before .before .count-of in
+    let k = by-daily (c .before) in
     c .revise .ensures
-    ∙ on-day (s .args .book) (s .args .count) (s .args .annual) (first .result) (first-is (c .before .before .before .before .before .before .before .before)) (omega arith) (omega arith) _
-    (daily-is (c .before)) (omega (arith, c .before .before .before .count-before .ensures))
+    ∙ on-day _ _ _ _ (first-is (by-before k)) (omega arith) (omega arith) _ (daily-is (c .before)) (omega (arith, k .count-before .ensures))
 
 pub rate-from-spec : {M : Type 1} → statement M
 rate-from-spec =

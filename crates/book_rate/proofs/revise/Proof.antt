@@ -2,7 +2,7 @@
 use Prim.Native.Nat.{ℕ, _+_, _≤_, _<_}
 use native.Mathlib.Omega.{arith}
 use mathlib.Core.Path.{_≡_, ap, _∙_}
-use mathlib.Core.Bool.{true, false}
+use mathlib.Core.Bool.{false}
 use mathlib.Core.List.{List, _++_}
 use borrow.Author.Needs.{needs}
 use lib.ListN.{length, take, drop, set}
@@ -11,16 +11,14 @@ use Rattle.account.specs.declared.Account.{Account}
 use Rattle.book_model.specs.declared.Book.{Book}
 use Rattle.account.specs.declared.RateOrder.{RateOrder}
 use Rattle.book_model.specs.declared.Refusal.the-variants as refusal
-use Rattle.account.specs.declared.Reckoned.{Reckoned}
 use Rattle.account.specs.declared.Reckoned.the-variants.{Standing, Overpaid, OutOfRange}
 use Rattle.book_model.specs.Book.{ratesOf, settlementsOf}
-use Rattle.rates.specs.Rate.{dailyOf}
 use Rattle.book_model.specs.Invariant.{Priced}
 use Rattle.account.specs.Invariant.{Fits}
-use Rattle.account.specs.Reckoning.{standing, replayed}
+use Rattle.account.specs.Reckoning.{standing}
 use Rattle.book_model.specs.Outcome.{Answer, Outcome, Changes, answered, refuse, noChanges}
-use Rattle.book_model.specs.Rate.{startingBefore, withRates, changesOf, revised}
-use Rattle.book_model.specs.Invariant.{Sound, OpenSound}
+use Rattle.book_model.specs.Rate.{withRates, changesOf, revised}
+use Rattle.book_model.specs.Invariant.{OpenSound}
 use Rattle.account.specs.Schedule.{storedOn}
 use Rattle.book_model.specs.Schedule.{dailyOn}
 use Rattle.account.specs.Standing.{overpaid}
@@ -47,71 +45,110 @@ withArray b n rates a =
       rates = rates;
     }
 
-module _ (b : Book) (h : Sound b) (is-open : b .opened ≡ true) (o : RateOrder) (few : length (startingBefore (o .first .0) (ratesOf b)) < 16)
-    (n : ℕ) (e : n ≡ length (startingBefore (o .first .0) (ratesOf b))) where
-  was : OpenSound b
-  was = h .when-open is-open
+-- The way back to the order's place among the rates, from each place by the one before it
+abbrev by-count : tie.After-count-before → tie.Start
+by-count c = c .before .before .before
+
+abbrev by-today : tie.After-today → tie.After-count-before
+by-today c = c .before .before .before
+
+abbrev by-replay : tie.After-replay → tie.After-count-before
+by-replay c = by-today (c .before)
+
+abbrev by-after : tie.After-after → tie.After-replay
+by-after c = c .before .before
+
+abbrev by-account : tie.After-before2 → tie.After-after
+by-account c = c .before .before
+
+known : (s : tie.Start) → OpenSound (s .args .book)
+known s = s .pre .0 .when-open (s .pre .1 .0)
+
+-- What is known where the order's place is found
+module _ (c : tie.After-count-before) where
+  abbrev b : Book
+  b = by-count c .args .book
+
+  abbrev o : RateOrder
+  o = by-count c .args .order
+
+  abbrev n : ℕ
+  n = c .count-before .result
+
+  room : b .rated ≤ length (b .rates)
+  room = omega (arith, known (by-count c) .rates-most, by-count c .pre .0 .room-rates)
 
   most : n ≤ b .rated
-  most =
-      omega (
-        arith,
-        count-most (o .first .0) (ratesOf b),
-        length-take-le (b .rated) (b .rates) (omega (arith, was .rates-most, h .room-rates)),
-      )
+  most = omega (arith, c .count-before .ensures, count-most (o .first .0) (ratesOf b), length-take-le (b .rated) (b .rates) room)
+
+  free : n < length (b .rates)
+  free = omega (arith, c .count-before .ensures, by-count c .pre .1 .1 .1, by-count c .pre .0 .room-rates)
 
   count : n + 1 ≡ length (ratesAfter b o)
-  count = omega (arith, length-with o (ratesOf b))
+  count = omega (arith, c .count-before .ensures, length-with o (ratesOf b))
 
   in-use : take (n + 1) (set (b .rates) n o) ≡ ratesAfter b o
-  in-use = stored-in-use (b .rates) (b .rated) o (was .from-start) n e most (omega (arith, h .room-rates))
+  in-use = stored-in-use (b .rates) (b .rated) o (known (by-count c) .from-start) n (c .count-before .ensures) most free
 
   array : set (b .rates) n o ≡ ratesAfter b o ++ drop (length (ratesAfter b o)) (b .rates)
   array =
-      stored (b .rates) (b .rated) o (was .from-start) n e most (omega (arith, h .room-rates))
+      stored (b .rates) (b .rated) o (known (by-count c) .from-start) n (c .count-before .ensures) most free
       ∙ ap (λ (k : ℕ). ratesAfter b o ++ drop k (b .rates)) count
 
-  module _ (le : o .annual ≤ 4000) (d : o .daily ≡ dailyOf (o .annual)) (until : o .first .0 ≤ b .today .0) (answer : Reckoned)
-      (f : answer ≡ replayed (b .recognised .0) (set (b .rates) n o) (n + 1) (b .settlements) (b .settled) (b .today .0)) where
-    all-priced : Priced (ratesAfter b o)
-    all-priced = priced-with o (ratesOf b) le d (was .priced)
+  all-priced : Priced (ratesAfter b o)
+  all-priced =
+      priced-with o (ratesOf b) (by-count c .pre .1 .1 .0 .0) (by-count c .pre .1 .1 .0 .1) (known (by-count c) .priced)
 
-    told : answer ≡ standing (b .recognised .0) (dailyOn (ratesAfter b o)) (settlementsOf b) (b .today .0)
-    told =
-        replay-told (b .recognised .0) (set (b .rates) n o) (n + 1) (b .settlements) (b .settled) (b .today .0) (was .recognised-most)
-        (omega (arith, was .within-term, was .term-most)) (omega arith) (was .settlements-most)
-        (rw in-use (moderate (ratesAfter b o) all-priced))
-        (rw in-use (from-start-with o (ratesOf b) (was .from-start)))
-        (was .timely) answer f
-        ∙ ap (λ (os : List RateOrder). standing (b .recognised .0) (storedOn os) (settlementsOf b) (b .today .0)) in-use
-        ∙ ap (λ (daily : ℕ → ℕ). standing (b .recognised .0) daily (settlementsOf b) (b .today .0)) (stored-is-daily (ratesAfter b o) all-priced)
+-- What is known of the replay's answer
+module _ (c : tie.After-replay) where
+  abbrev book : Book
+  book = b (by-replay c)
 
-    never : {A : Type 0} → answer ≡ OutOfRange → A
-    never s = in-range (b .recognised .0) (dailyOn (ratesAfter b o)) (settlementsOf b) (b .today .0) answer told s
+  abbrev order : RateOrder
+  order = o (by-replay c)
 
-    revised-over : answer ≡ Overpaid → refuse noChanges b refusal.Overpaid ≡ revised b o
-    unfolding revised
-    revised-over s =
-        rw (is-over (b .recognised .0) (dailyOn (ratesAfter b o)) (settlementsOf b) (b .today .0) answer told s)
+  abbrev daily : ℕ → ℕ
+  daily = dailyOn (ratesAfter book order)
 
-    module _ (a : Account) (s : answer ≡ Standing a) where
-      is : (overpaid (b .recognised .0) (dailyOn (ratesAfter b o)) (settlementsOf b) ≡ false) × (a ≡ accountAfter b o)
-      is = stands (b .recognised .0) (dailyOn (ratesAfter b o)) (settlementsOf b) (b .today .0) answer told a s
+  was : OpenSound book
+  was = known (by-count (by-replay c))
 
-      fit : Fits a
-      fit =
-          rw (is .1)
-          (fits (b .today .0) (accountAfter b o) (omega (arith, was .within-term, was .term-most))
-          (account-bounded (b .recognised .0) (dailyOn (ratesAfter b o)) (settlementsOf b) (was .recognised-most) (daily-most (ratesAfter b o) all-priced)
-          (is .0) (b .today .0)))
+  told : c .replay .result ≡ standing (book .recognised .0) daily (settlementsOf book) (book .today .0)
+  told =
+      let k = by-replay c in
+      replay-told (book .recognised .0) (set (book .rates) (n k) order) (n k + 1) (book .settlements) (book .settled) (book .today .0) (was .recognised-most)
+      (omega (arith, was .within-term, was .term-most)) (omega (arith, free k, by-count k .pre .0 .room-rates)) (was .settlements-most)
+      (rw (in-use k) (moderate (ratesAfter book order) (all-priced k)))
+      (rw (in-use k) (from-start-with order (ratesOf book) (was .from-start)))
+      (was .timely) (c .replay .result) (c .replay .ensures)
+      ∙ ap (λ (os : List RateOrder). standing (book .recognised .0) (storedOn os) (settlementsOf book) (book .today .0)) (in-use k)
+      ∙ ap (λ (d : ℕ → ℕ). standing (book .recognised .0) d (settlementsOf book) (book .today .0)) (stored-is-daily (ratesAfter book order) (all-priced k))
 
-      revised-standing : (r : Answer Changes) → r ≡ answered (changesOf (b .account) a)
-          → _≡_ {A = Outcome Changes} (record { answer = r; book = withArray b (n + 1) (set (b .rates) n o) a }) (revised b o)
-      unfolding revised withRates
-      revised-standing r q = rw (is .0, q, is .1, array, count)
+  never : {A : Type 0} → c .replay .result ≡ OutOfRange → A
+  never s = in-range (book .recognised .0) daily (settlementsOf book) (book .today .0) (c .replay .result) told s
+
+  revised-over : c .replay .result ≡ Overpaid → refuse noChanges book refusal.Overpaid ≡ revised book order
+  unfolding revised
+  revised-over s = rw (is-over (book .recognised .0) daily (settlementsOf book) (book .today .0) (c .replay .result) told s)
+
+  module _ (a : Account) (s : c .replay .result ≡ Standing a) where
+    is : (overpaid (book .recognised .0) daily (settlementsOf book) ≡ false) × (a ≡ accountAfter book order)
+    is = stands (book .recognised .0) daily (settlementsOf book) (book .today .0) (c .replay .result) told a s
+
+    fit : Fits a
+    fit =
+        rw (is .1)
+        (fits (book .today .0) (accountAfter book order) (omega (arith, was .within-term, was .term-most))
+        (account-bounded (book .recognised .0) daily (settlementsOf book) (was .recognised-most)
+        (daily-most (ratesAfter book order) (all-priced (by-replay c))) (is .0) (book .today .0)))
+
+    revised-standing : (r : Answer Changes) → r ≡ answered (changesOf (book .account) a)
+        → _≡_ {A = Outcome Changes} (record { answer = r; book = withArray book (n (by-replay c) + 1) (set (book .rates) (n (by-replay c)) order) a }) (revised book order)
+    unfolding revised withRates
+    revised-standing r q = rw (is .0, q, is .1, array (by-replay c), count (by-replay c))
 
 count-before-requires : tie.Need-count-before-requires
-count-before-requires c κs = let s = c .before .before in s .pre .0 .when-open (s .pre .1 .0) .rates-most
+count-before-requires c κs = known (c .before .before) .rates-most
 
 mul-rates : tie.Need-mul-rates
 mul-rates c = search needs
@@ -130,14 +167,9 @@ enum-known-after c = search needs
 
 changes-requires : tie.Need-changes-requires
 changes-requires c κs =
-    let s = c .before .before .before .before .before .before .before .before .before .before .before in
-    let n = c .before .before .before .before .before .before .before .before .count-before in
-    let r = c .before .before .before .before .replay in
-    let a = c .before .before .after in
-    let o = s .pre .0 .when-open (s .pre .1 .0) in (
-      fits (s .args .book .today .0) (s .args .book .account) (omega (arith, o .within-term, o .term-most)) (o .bounded),
-      fit (s .args .book) (s .pre .0) (s .pre .1 .0) (s .args .order) (s .pre .1 .1 .1) (n .result) (n .ensures) (s .pre .1 .1 .0 .0) (s .pre .1 .1 .0 .1) (s .pre .1 .1 .0 .2) _ (r .ensures) (a .given .0 .0) (a .given .1),
-    )
+    let a = by-account c in
+    let w = was (by-after a) in
+    (fits _ _ (omega (arith, w .within-term, w .term-most)) (w .bounded), fit (by-after a) _ (a .after .given .1))
 
 enum-told : tie.Need-enum-told
 enum-told c = search needs
@@ -152,26 +184,13 @@ refused-requires-2 : tie.Need-refused-requires-2
 refused-requires-2 c κs = search needs
 
 returns : tie.Need-returns
-returns c =
-    let s = c .before .before .before .before .before .before .before .before .before .before .before .before in
-    let n = c .before .before .before .before .before .before .before .before .before .count-before in
-    let r = c .before .before .before .before .before .replay in
-    let a = c .before .before .before .after in
-    revised-standing (s .args .book) (s .pre .0) (s .pre .1 .0) (s .args .order) (s .pre .1 .1 .1) (n .result) (n .ensures) (s .pre .1 .1 .0 .0) (s .pre .1 .1 .0 .1) (s .pre .1 .1 .0 .2) _ (r .ensures) (a .given .0 .0) (a .given .1) _ (c .changes .ensures)
+returns c = let a = by-account (c .before) in revised-standing (by-after a) _ (a .after .given .1) _ (c .changes .ensures)
 
 returns-2 : tie.Need-returns-2
-returns-2 c =
-    let s = c .before .before .before .before .before .before .before .before .before .before in
-    let n = c .before .before .before .before .before .before .before .count-before in
-    let r = c .before .before .before .replay in
-    c .refused .ensures ∙ revised-over (s .args .book) (s .pre .0) (s .pre .1 .0) (s .args .order) (s .pre .1 .1 .1) (n .result) (n .ensures) (s .pre .1 .1 .0 .0) (s .pre .1 .1 .0 .1) (s .pre .1 .1 .0 .2) _ (r .ensures) (c .before .enum-told .given .1)
+returns-2 c = c .refused .ensures ∙ revised-over (c .before .before .before) (c .before .enum-told .given .1)
 
 returns-3 : tie.Need-returns-3
-returns-3 c =
-    let s = c .before .before .before .before .before .before .before .before .before .before in
-    let n = c .before .before .before .before .before .before .before .count-before in
-    let r = c .before .before .before .replay in
-    never (s .args .book) (s .pre .0) (s .pre .1 .0) (s .args .order) (s .pre .1 .1 .1) (n .result) (n .ensures) (s .pre .1 .1 .0 .0) (s .pre .1 .1 .0 .1) (s .pre .1 .1 .0 .2) _ (r .ensures) (c .before .enum-told2 .given .1)
+returns-3 c = never (c .before .before .before) (c .before .enum-told2 .given .1)
 
 pub revise-spec : {M : Type 1} → statement M
 revise-spec =

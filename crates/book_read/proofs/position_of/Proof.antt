@@ -25,9 +25,13 @@ holder-right c = ap not (sym (c .before .is-holder .ensures)) ∙ c .if2 .left
 open-sound : (c : tie.Else2) → OpenSound (asked c .args .t1)
 open-sound c = let s = asked c in sound (s .args .t1) (s .pre) .when-open (not-false (s .args .t1 .opened) (is-open c))
 
+-- The way back to the number's test
+abbrev by-find : tie.After-find → tie.Else2
+by-find c = c .before .before
+
 -- it is in the book
 abbrev passed : tie.After-at → tie.Else2
-passed c = c .before .before .before .before
+passed c = by-find (c .before .before)
 
 hit : (c : tie.After-at)
     → (c .at .given .0 .0 ≡ place (asked (passed c) .args .holder) (held (asked (passed c) .args .t1)))
@@ -41,15 +45,14 @@ hit c =
     (f .0, omega (arith, f .1), f .2)
 
 returns : tie.Need-returns
-returns c = let a = c .before .args in position-unopened (a .t1) (a .holder) (c .if1 .taken)
+returns c = position-unopened _ _ (c .if1 .taken)
 
 is-holder-requires : tie.Need-is-holder-requires
 is-holder-requires c κs = search needs
 
 returns-2 : tie.Need-returns-2
 returns-2 c =
-    let a = c .before .before .before .args in
-    position-no-holder (a .t1) (a .holder) (c .before .before .if1 .left) (ap not (sym (c .before .is-holder .ensures)) ∙ c .if2 .taken)
+    position-no-holder _ _ (c .before .before .if1 .left) (ap not (sym (c .before .is-holder .ensures)) ∙ c .if2 .taken)
 
 find-requires : tie.Need-find-requires
 find-requires c κs = search needs
@@ -70,15 +73,14 @@ returns-3 : tie.Need-returns-3
 returns-3 c =
     let f = c .before .before in
     let t = passed f in
-    let a = asked t .args in
-    position-known (a .t1) (a .holder) (is-open t) (holder-right t) (f .at .given .0 .0) (hit f .0) (hit f .1) (hit f .2)
+    position-known _ _ (is-open t) (holder-right t) _ (hit f .0) (hit f .1) (hit f .2)
 
 returns-4 : tie.Need-returns-4
 returns-4 c =
-    let t = c .before .before .before .before in
+    let t = by-find (c .before .before) in
     let a = asked t .args in
     let away = found-nothing (held (a .t1)) (a .holder) (sym (c .enum-told .given .1) ∙ c .before .before .find .ensures) in
-    position-unknown (a .t1) (a .holder) (is-open t) (holder-right t) away
+    position-unknown _ _ (is-open t) (holder-right t) away
 
 pub position-of-spec : {M : Type 1} → statement M
 position-of-spec =

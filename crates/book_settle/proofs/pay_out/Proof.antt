@@ -16,6 +16,10 @@ as-many s =
     let room : length (s .args .positions) ≡ 64 = search needs in
     length-take-le (s .args .count) (s .args .positions) (omega (arith, room, s .pre .0 .1))
 
+-- The way back to the weights
+abbrev by-portions : tie.After-portions → tie.After-weights-of
+by-portions c = c .before .before
+
 weights-of-requires : tie.Need-weights-of-requires
 weights-of-requires c κs = c .pre .0 .1
 
@@ -24,8 +28,8 @@ apportion-requires c κs = search needs
 
 pay-positions-requires : tie.Need-pay-positions-requires
 pay-positions-requires c κs =
-    let s = c .before .before .before in
-    let w = c .before .before .weights-of in
+    let s = by-portions c .before in
+    let w = by-portions c .weights-of in
     let most =
     parts-most (s .args .count) (s .pre .0 .0) (s .pre .0 .1) (take (s .args .count) (s .args .positions)) (as-many s) (s .pre .1 .0 .0) (s .pre .1 .0 .1)
     (s .args .cents .0) (s .pre .0 .2) (w .result) (w .ensures .1)
@@ -34,8 +38,8 @@ pay-positions-requires c κs =
 
 returns : tie.Need-returns
 returns c =
-    let s = c .before .before .before .before in
-    let w = c .before .before .before .weights-of in
+    let s = by-portions (c .before) .before in
+    let w = by-portions (c .before) .weights-of in
     c .pay-positions .ensures
     ∙ rw (c .before .before .apportion .ensures)
     (ap (λ (ps : List Position). ps ++ drop (s .args .count) (s .args .positions))

@@ -50,6 +50,10 @@ Inv-loop count portions next₀ i₀ next i =
 abbrev μ-loop : tie.MeasureT-loop
 μ-loop count portions next₀ i₀ next i = count - i
 
+-- The way back from a turn's end to the loop's head
+abbrev by-turn : tie.After-paid-position Inv-loop μ-loop → tie.At-loop Inv-loop μ-loop
+by-turn c = c .before .before .before
+
 loop-holds : tie.Need-loop-holds Inv-loop μ-loop
 loop-holds c = (omega arith, c .pre .0, search needs, refl)
 
@@ -86,8 +90,8 @@ loop-less c = omega arith
 
 loop-again : tie.Need-loop-again Inv-loop μ-loop
 loop-again c =
-    let s = c .before .before .before .before in
-    let l = c .before .before .before .loop in
+    let s = by-turn c .before in
+    let l = by-turn c .loop in
     let p = c .paid-position in (
       omega arith,
       l .inv .1,

@@ -19,6 +19,19 @@ outcome : (o : Outcome Taken) (a : Answer Taken) (b : Book) → a ≡ o .answer 
     → _≡_ {A = Outcome Taken} (record { answer = a; book = b }) o
 outcome o a b e f = rw (e, f)
 
+-- The way back to where something is taken, from each place by the one before it
+abbrev by-pay : tie.After-pay → tie.After-enum-told
+by-pay c = c .before .before
+
+abbrev by-pay-out : tie.After-pay-out → tie.After-pay
+by-pay-out c = c .before .before
+
+abbrev by-stored : tie.After-settlements → tie.After-pay-out
+by-stored c = c .before .before
+
+abbrev by-taken : tie.After-settlements → tie.After-enum-told
+by-taken c = by-pay (by-pay-out (by-stored c))
+
 -- something is taken
 abbrev asked : tie.After-enum-told → tie.Start
 asked c = c .before .before .before
@@ -56,19 +69,19 @@ pay-requires c κs =
 
 pay-out-requires : tie.Need-pay-out-requires
 pay-out-requires c κs =
-    let t = c .before .before .before in (
+    let t = by-pay (c .before) in (
       (known t .positions-some, known t .positions-most, right t .cents-most),
       ((days-some t, days-most t), receipt-most (asked t .args .book) (known t)),
     )
 
 mul-settlements : tie.Need-mul-settlements
-mul-settlements c = omega (arith, right (c .before .before .before .before .before .before))
+mul-settlements c = omega (arith, right (by-taken c))
 
 array-set-from-settlements : tie.Need-array-set-from-settlements
-array-set-from-settlements c = omega (arith, right (c .before .before .before .before .before .before))
+array-set-from-settlements c = omega (arith, right (by-taken c))
 
 add-next : tie.Need-add-next
-add-next c = omega (arith, right (c .before .before .before .before .before .before))
+add-next c = omega (arith, right (by-taken c))
 
 enum-told-2 : tie.Need-enum-told-2
 enum-told-2 c = search needs
@@ -76,11 +89,11 @@ enum-told-2 c = search needs
 returns : tie.Need-returns
 unfolding withAccount withSettlement
 returns c =
-    let t = c .before .before .before .before .before .before in
+    let t = by-taken c in
     let a = asked t .args in
     let answer = t .before .before .taking in
-    let paid = c .before .before .before .before .pay in
-    let out = c .before .before .pay-out in
+    let paid = by-pay-out (by-stored c) .pay in
+    let out = by-stored c .pay-out in
     outcome _ _ _ (answer .ensures)
     (put-together (a .book) (room t) (a .cents .0) (out .result) (paid .result) (out .ensures) (paid .ensures)
     ∙ taken-book (a .book) (a .cents) _ (ap settleCase (sym (t .enum-told .given .1)) ∙ answer .ensures))

@@ -22,47 +22,58 @@ taken : (b : Book) (m i : Cents) → i .0 ≡ interestOf (m .0) (b .account)
     → answered {A = Taken} (record { interest = i; principal = record { 0 = m .0 - i .0 } }) ≡ answered (takenOf b (m .0))
 taken b m i e = rw e
 
+-- The way back from test to test, from each place by the one before it
+abbrev by-within : tie.Else2 → tie.Else1
+by-within c = c .before .before
+
+abbrev by-free : tie.Else3 → tie.Else2
+by-free c = c .before .before
+
+abbrev by-last : tie.After-last-settled → tie.Else3
+by-last c = c .before .before
+
+abbrev by-day : tie.After-struct-known4 → tie.Else3
+by-day c = by-last (c .before .before)
+
+abbrev by-owed : tie.After-struct-known6 → tie.Else3
+by-owed c = by-day (c .before .before .before)
+
+abbrev by-lesser : tie.After-lesser → tie.Else5
+by-lesser c = c .before .before
+
 -- past the first test the book is open
 is-open : (c : tie.Else1) → c .before .args .book .opened ≡ true
-is-open c = not-false (c .before .args .book .opened) (c .if1 .left)
+is-open c = not-false _ (c .if1 .left)
 
 returns : tie.Need-returns
-returns c =
-    let a = c .before .args in
-    ap answer-of (unopened (a .book) (a .cents) (not-true (a .book .opened) (c .if1 .taken)))
+returns c = ap answer-of (unopened _ _ (not-true _ (c .if1 .taken)))
 
 returns-2 : tie.Need-returns-2
-returns-2 c =
-    let o = c .before .before in
-    let a = o .before .args in
-    ap answer-of (too-much (a .book) (a .cents) (is-open o) (omega arith))
+returns-2 c = ap answer-of (too-much _ _ (is-open (c .before .before)) (omega arith))
 
 returns-3 : tie.Need-returns-3
 returns-3 c =
-    let o = c .before .before .before .before in
-    let a = o .before .args in
-    ap answer-of (full (a .book) (a .cents) (is-open o) (omega arith) (omega arith))
+    let o = by-within (c .before .before) in
+    ap answer-of (full _ _ (is-open o) (omega arith) (omega arith))
 
 last-settled-requires : tie.Need-last-settled-requires
 last-settled-requires c κs = search needs
 
 returns-4 : tie.Need-returns-4
 returns-4 c =
-    let o = c .before .before .before .before .before .before .before .before .before in
-    let a = o .before .args in
-    ap answer-of (no-day (a .book) (a .cents) (is-open o) (omega arith) (omega arith) (omega arith))
+    let o = by-within (by-free (by-day (c .before))) in
+    ap answer-of (no-day _ _ (is-open o) (omega arith) (omega arith) (omega arith))
 
 add-if5 : tie.Need-add-if5
 add-if5 c =
-    let o = c .before .before .before .before .before .before .before .before .before .before in
+    let o = by-within (by-free (by-day (c .before .before))) in
     omega (arith, o .before .pre .when-open (is-open o))
 
 returns-5 : tie.Need-returns-5
 returns-5 c =
-    let o = c .before .before .before .before .before .before .before .before .before .before .before .before in
-    let within = c .before .before .before .before .before .before .before .before .before .before .if2 .left in
-    let a = o .before .args in
-    ap answer-of (overpaid (a .book) (a .cents) (is-open o) (omega arith) (omega arith) (omega arith) (omega arith))
+    let o = by-within (by-free (by-owed (c .before))) in
+    let within = by-free (by-owed (c .before)) .if2 .left in
+    ap answer-of (overpaid _ _ (is-open o) (omega arith) (omega arith) (omega arith) (omega arith))
 
 lesser-requires : tie.Need-lesser-requires
 lesser-requires c κs = search needs
@@ -72,13 +83,12 @@ sub-principal c = search needs
 
 returns-6 : tie.Need-returns-6
 returns-6 c =
-    let k = c .before .before .before .before in
-    let o = k .before .before .before .before .before .before .before .before .before .before .before .before in
-    let within = k .before .before .before .before .before .before .before .before .before .before .if2 .left in
-    let free = k .before .before .before .before .before .before .before .before .if3 .left in
+    let k = by-lesser (c .before .before) in
+    let o = by-within (by-free (by-owed (k .before))) in
+    let within = by-free (by-owed (k .before)) .if2 .left in
+    let free = by-owed (k .before) .if3 .left in
     let a = o .before .args in
-    let i = c .before .before .lesser in
-    taken (a .book) (a .cents) (i .result) (i .ensures)
+    taken (a .book) (a .cents) _ (c .before .before .lesser .ensures)
     ∙ ap answer-of (accepted (a .book) (a .cents) (is-open o) (omega arith) (omega arith) (omega arith) (omega arith))
 
 pub taking-spec : {M : Type 1} → statement M

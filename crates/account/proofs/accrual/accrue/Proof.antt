@@ -1,4 +1,4 @@
--- Each answer by the tests that led to it.
+-- Out of range by the account, the rate or the days, tested in this order; else the account after the days.
 use native.Mathlib.Omega.{arith}
 use mathlib.Core.Path.{_≡_, sym, ap, _∙_}
 use mathlib.Core.Bool.{true}
@@ -10,6 +10,10 @@ use Rattle.account.proofs.RangeTests.{account-fits}
 use Rattle.account.proofs.Reckonings.{no-account, high-rate, many-days, accrues}
 use Rattle.account.proofs.accrual.accrue.Statement.{statement}
 use Rattle.account.proofs.accrual.accrue.Tie as tie
+
+-- The way back to the test of the account
+abbrev by-days : tie.After-struct-known → tie.Else1
+by-days c = c .before .before
 
 is : (c : tie.Else1) → isAccount (c .before .before .args .account) ≡ true
 is c = sym (c .before .is-account .ensures) ∙ not-false (c .before .is-account .result) (c .if1 .left)
@@ -25,14 +29,14 @@ returns-2 : tie.Need-returns-2
 returns-2 c = high-rate _ _ _ (is (c .before)) (omega arith)
 
 returns-3 : tie.Need-returns-3
-returns-3 c = many-days _ _ _ (is (c .before .before .before)) (omega arith) (omega arith)
+returns-3 c = many-days _ _ _ (is (by-days (c .before))) (omega arith) (omega arith)
 
 accrue-days-requires : tie.Need-accrue-days-requires
-accrue-days-requires c κs = (account-fits _ (is (c .before .before .before)), (omega arith, omega arith))
+accrue-days-requires c κs = (account-fits _ (is (by-days (c .before))), (omega arith, omega arith))
 
 returns-4 : tie.Need-returns-4
 returns-4 c =
-    ap Standing (c .accrue-days .ensures) ∙ accrues _ _ _ (is (c .before .before .before .before)) (omega arith) (omega arith)
+    ap Standing (c .accrue-days .ensures) ∙ accrues _ _ _ (is (by-days (c .before .before))) (omega arith) (omega arith)
 
 pub accrue-spec : {M : Type 1} → statement M
 accrue-spec =

@@ -1,4 +1,4 @@
--- `accrue_days` meets its contract, by the closed form.
+-- The whole cents and the rest are those of the closed form, and each product fits.
 use Prim.Native.Nat.{ℕ, _*_, _/_, _%_, _≤_}
 use native.Mathlib.Omega.{arith}
 use native.Mathlib.Nat.{mul-le-mul}
@@ -29,6 +29,16 @@ whole s = whole-bound (s .args .days .0) (s .args .daily) (s .args .account) (s 
 rest : (s : tie.Start) → s .args .days .0 * (s .args .account .outstanding .0 * s .args .daily % 10000000000) ≤ 6000 * 10000000000
 rest s = rest-bound (s .args .days .0) (s .args .account .outstanding .0 * s .args .daily) (s .pre .1 .1)
 
+-- The way back to the start, from each place by the one before it
+abbrev by-days : tie.After-struct-known2 → tie.Start
+by-days c = c .before .before
+
+abbrev by-fraction : tie.After-struct-known3 → tie.Start
+by-fraction c = by-days (c .before)
+
+abbrev by-due : tie.After-struct-known4 → tie.Start
+by-due c = by-fraction (c .before)
+
 mul-one : tie.Need-mul-one
 mul-one c = omega (arith, one (c .before))
 
@@ -36,23 +46,23 @@ cast-n : tie.Need-cast-n
 cast-n c = search needs
 
 mul-whole : tie.Need-mul-whole
-mul-whole c = omega (arith, whole (c .before .before))
+mul-whole c = omega (arith, whole (by-days c))
 
 mul-rest : tie.Need-mul-rest
-mul-rest c = omega (arith, rest (c .before .before))
+mul-rest c = omega (arith, rest (by-days c))
 
 add-rest : tie.Need-add-rest
-add-rest c = omega (arith, rest (c .before .before .before))
+add-rest c = omega (arith, rest (by-fraction c))
 
 add-due : tie.Need-add-due
-add-due c = let s = c .before .before .before .before in omega (arith, whole s, rest s)
+add-due c = let s = by-due c in omega (arith, whole s, rest s)
 
 add-due-2 : tie.Need-add-due-2
-add-due-2 c = let s = c .before .before .before .before in omega (arith, whole s, rest s)
+add-due-2 c = let s = by-due c in omega (arith, whole s, rest s)
 
 returns : tie.Need-returns
 returns c =
-    let s = c .before .before .before .before .before in
+    let s = by-due (c .before) in
     closed-form (s .args .days .0) (s .args .daily) (s .args .account) (s .pre .0 .below)
 
 pub accrue-days-spec : {M : Type 1} → statement M

@@ -1,4 +1,4 @@
--- Each answer by the tests that led to it.
+-- Out of range where the account is none, overpaid where the payment is over its worth, else the account paid off.
 use native.Mathlib.Omega.{arith}
 use mathlib.Core.Path.{_≡_, sym, ap, _∙_}
 use mathlib.Core.Bool.{true}
@@ -10,6 +10,10 @@ use Rattle.account.proofs.RangeTests.{account-fits}
 use Rattle.account.proofs.Reckonings.{no-account-paid, over-worth, pays}
 use Rattle.account.proofs.paying.pay.Statement.{statement}
 use Rattle.account.proofs.paying.pay.Tie as tie
+
+-- The way back to the test of the account
+abbrev by-worth : tie.After-struct-known2 → tie.Else1
+by-worth c = c .before .before
 
 is : (c : tie.Else1) → isAccount (c .before .before .args .account) ≡ true
 is c = sym (c .before .is-account .ensures) ∙ not-false (c .before .is-account .result) (c .if1 .left)
@@ -25,13 +29,13 @@ add-if2 : tie.Need-add-if2
 add-if2 c = let h = account-fits _ (is (c .before)) in omega (arith, h .principal, h .interest)
 
 returns-2 : tie.Need-returns-2
-returns-2 c = over-worth _ _ (is (c .before .before .before)) (omega arith)
+returns-2 c = over-worth _ _ (is (by-worth (c .before))) (omega arith)
 
 pay-off-requires : tie.Need-pay-off-requires
-pay-off-requires c κs = (account-fits _ (is (c .before .before .before)), omega arith)
+pay-off-requires c κs = (account-fits _ (is (by-worth (c .before))), omega arith)
 
 returns-3 : tie.Need-returns-3
-returns-3 c = ap Standing (c .pay-off .ensures) ∙ pays _ _ (is (c .before .before .before .before)) (omega arith)
+returns-3 c = ap Standing (c .pay-off .ensures) ∙ pays _ _ (is (by-worth (c .before .before))) (omega arith)
 
 pub pay-spec : {M : Type 1} → statement M
 pay-spec =

@@ -1,8 +1,18 @@
--- `pay_off` meets its contract.
+-- The interest taken is the lesser of the payment and what is due; every figure follows from it.
 use borrow.Author.Needs.{needs}
 use Rattle.account.specs.Accrual.{paidOff}
 use Rattle.account.proofs.paying.pay_off.Statement.{statement}
 use Rattle.account.proofs.paying.pay_off.Tie as tie
+
+-- The way back to the interest taken, from each place by the one before it
+abbrev by-principal : tie.After-struct-known2 → tie.After-lesser
+by-principal c = c .before .before
+
+abbrev by-unpaid : tie.After-struct-known5 → tie.After-lesser
+by-unpaid c = by-principal (c .before .before .before)
+
+abbrev by-paid : tie.After-struct-known8 → tie.After-lesser
+by-paid c = by-unpaid (c .before .before .before)
 
 lesser-requires : tie.Need-lesser-requires
 lesser-requires c κs = search needs
@@ -24,7 +34,7 @@ add-interest-paid c = search needs
 
 returns : tie.Need-returns
 unfolding paidOff
-returns c = rw (c .before .before .before .before .before .before .before .before .lesser .ensures)
+returns c = rw (by-paid c .lesser .ensures)
 
 pub pay-off-spec : {M : Type 1} → statement M
 pay-off-spec =

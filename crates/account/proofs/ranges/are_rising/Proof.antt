@@ -24,9 +24,9 @@ abbrev μ-loop : tie.MeasureT-loop
 room : (s : tie.Start Inv-loop μ-loop) → s .args .rated ≤ length (s .args .t1)
 room s = let n : length (s .args .t1) ≡ 16 = search needs in omega (arith, s .pre .1)
 
--- The orders at hand: the test has come to the place of the loop
-abbrev by-loop : tie.After-is-next Inv-loop μ-loop → tie.At-loop Inv-loop μ-loop
-by-loop c = c .before .before .before .before
+-- The way back to a turn's beginning
+abbrev by-turn : tie.After-is-next Inv-loop μ-loop → tie.In-loop Inv-loop μ-loop
+by-turn c = c .before .before .before
 
 loop-holds : tie.Need-loop-holds Inv-loop μ-loop
 loop-holds c = (omega (arith, c .pre .0), refl)
@@ -54,22 +54,23 @@ is-next-requires c κs = tt
 
 returns : tie.Need-returns Inv-loop μ-loop
 returns c =
-    let l = by-loop (c .before) in
+    let k = by-turn (c .before) in
+    let l = k .before in
     sym
     (l .loop .inv .1
-    ∙ next-wrong (l .before .args .t1) (l .before .args .rated) (room (l .before)) _ (l .loop .at + 1) (omega (arith, c .before .before .before .before .loop-test .taken))
+    ∙ next-wrong (l .before .args .t1) (l .before .args .rated) (room (l .before)) _ (l .loop .at + 1) (omega (arith, k .loop-test .taken))
     (sym (c .before .is-next .ensures) ∙ not-true (c .before .is-next .result) (c .if1 .taken)))
 
 add-at : tie.Need-add-at Inv-loop μ-loop
-add-at c = let l = by-loop (c .before) in omega (arith, l .loop .inv .0, l .before .pre .1)
+add-at c = let l = by-turn (c .before) .before in omega (arith, l .loop .inv .0, l .before .pre .1)
 
 loop-less : tie.Need-loop-less Inv-loop μ-loop
-loop-less c = let l = by-loop (c .before) in omega (arith, l .loop .inv .0)
+loop-less c = let l = by-turn (c .before) .before in omega (arith, l .loop .inv .0)
 
 loop-again : tie.Need-loop-again Inv-loop μ-loop
 loop-again c =
-    let l = by-loop (c .before) in
-    let more = c .before .before .before .before .loop-test .taken in (
+    let l = by-turn (c .before) .before in
+    let more = by-turn (c .before) .loop-test .taken in (
       more,
       l .loop .inv .1
           ∙ next-right (l .before .args .t1) (l .before .args .rated) (room (l .before)) _ (l .loop .at + 1) (omega (arith, more))

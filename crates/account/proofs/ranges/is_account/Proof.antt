@@ -1,10 +1,20 @@
--- Each answer by the tests that led to it.
+-- The figures in the specification's order: the first that is too large decides, else the interest paid.
 use native.Mathlib.Omega.{arith}
 use borrow.Author.Tests.{le-leb, lt-leb, lt-ltb, le-ltb}
 use Rattle.account.specs.declared.Account.{Account}
 use Rattle.account.specs.Ranges.{isAccount}
 use Rattle.account.proofs.ranges.is_account.Statement.{statement}
 use Rattle.account.proofs.ranges.is_account.Tie as tie
+
+-- The way back to the start, from each figure by the one before it
+abbrev by-due : tie.After-struct-known2 → tie.Start
+by-due c = c .before .before .before
+
+abbrev by-fraction : tie.After-struct-known3 → tie.Start
+by-fraction c = by-due (c .before .before)
+
+abbrev by-principal : tie.After-struct-known4 → tie.Start
+by-principal c = by-fraction (c .before .before)
 
 returns : tie.Need-returns
 unfolding isAccount
@@ -13,13 +23,13 @@ returns c = simp (lt-leb (c .before .before .args .account .outstanding .0) 1000
 returns-2 : tie.Need-returns-2
 unfolding isAccount
 returns-2 c =
-    let a : Account = c .before .before .before .before .args .account in
+    let a : Account = by-due (c .before) .args .account in
     simp (le-leb (a .outstanding .0) 1000000000000 (omega arith), lt-leb (a .due .0) 1000000000000 (omega arith))
 
 returns-3 : tie.Need-returns-3
 unfolding isAccount
 returns-3 c =
-    let a : Account = c .before .before .before .before .before .before .args .account in
+    let a : Account = by-fraction (c .before) .args .account in
     simp (
       le-leb (a .outstanding .0) 1000000000000 (omega arith),
       le-leb (a .due .0) 1000000000000 (omega arith),
@@ -29,7 +39,7 @@ returns-3 c =
 returns-4 : tie.Need-returns-4
 unfolding isAccount
 returns-4 c =
-    let a : Account = c .before .before .before .before .before .before .before .before .args .account in
+    let a : Account = by-principal (c .before) .args .account in
     simp (
       le-leb (a .outstanding .0) 1000000000000 (omega arith),
       le-leb (a .due .0) 1000000000000 (omega arith),
@@ -40,7 +50,7 @@ returns-4 c =
 returns-5 : tie.Need-returns-5
 unfolding isAccount
 returns-5 c =
-    let a : Account = c .before .before .before .before .before .before .before .before .before .args .account in
+    let a : Account = by-principal (c .before .before) .args .account in
     simp (
       le-leb (a .outstanding .0) 1000000000000 (omega arith),
       le-leb (a .due .0) 1000000000000 (omega arith),

@@ -1,4 +1,4 @@
--- Each answer by the tests that led to it.
+-- An order that does not begin on day 0 is none; of one that does, the daily rate decides.
 use native.Mathlib.Omega.{arith}
 use borrow.Author.Tests.{eq-eqb, ne-eqb}
 use Rattle.account.proofs.ranges.is_first.Statement.{statement}

@@ -1,4 +1,4 @@
--- Each answer by the tests that led to it.
+-- Out of range by the first of six tests that fails; where all pass, the replay's answer.
 use Prim.Native.Nat.{_≤_}
 use native.Mathlib.Omega.{arith}
 use mathlib.Core.Path.{_≡_, sym, _∙_}

@@ -1,5 +1,5 @@
 -- The loop's invariant: what is left to test and to replay, from the account and the day at hand, is what was asked at the start.
-use Prim.Native.Nat.{ℕ, _+_, _-_, _≤_}
+use Prim.Native.Nat.{ℕ, _+_, _-_, _≤_, _<_}
 use native.Mathlib.Omega.{arith}
 use mathlib.Core.Logic.{⊎-elim}
 use mathlib.Core.Path.{_≡_, refl, sym, subst, _∙_}
@@ -45,11 +45,17 @@ by-cents c = c .before .before .before
 abbrev by-day : tie.After-struct-known2 Inv-loop μ-loop → tie.In-loop Inv-loop μ-loop
 by-day c = by-cents (c .before .before)
 
+abbrev by-last : tie.After-struct-known4 Inv-loop μ-loop → tie.Else1 Inv-loop μ-loop
+by-last c = c .before .before
+
 abbrev by-later : tie.After-struct-known4 Inv-loop μ-loop → tie.In-loop Inv-loop μ-loop
-by-later c = by-day (c .before .before .before)
+by-later c = by-day (by-last c .before)
+
+abbrev by-today : tie.After-hold Inv-loop μ-loop → tie.Else2 Inv-loop μ-loop
+by-today c = c .before .before
 
 abbrev by-hold : tie.After-hold Inv-loop μ-loop → tie.In-loop Inv-loop μ-loop
-by-hold c = by-later (c .before .before .before)
+by-hold c = by-later (by-today c .before)
 
 abbrev by-passed : tie.Joined3-2 Inv-loop μ-loop → tie.In-loop Inv-loop μ-loop
 by-passed c = by-hold (c .before)
@@ -59,6 +65,9 @@ by-account c = c .before .before
 
 abbrev by-worth : tie.After-struct-known7 Inv-loop μ-loop → tie.After-account Inv-loop μ-loop
 by-worth c = c .before .before
+
+abbrev by-end : tie.After-elapse2 Inv-loop μ-loop → tie.At-loop Inv-loop μ-loop
+by-end c = c .before .before
 
 abbrev by-rising : tie.After-are-rising Inv-loop μ-loop → tie.After-elapse2 Inv-loop μ-loop
 by-rising c = c .before .before
@@ -130,14 +139,20 @@ mul-if4 c = let k = by-hold (c .before) in omega (arith, k .before .before .pre 
 element-copy-out-if4 : tie.Need-element-copy-out-if4 Inv-loop μ-loop
 element-copy-out-if4 c = let k = by-hold (c .before) in omega (arith, c .if3 .taken, k .before .before .pre .0 .2)
 
+-- the settlement's day is after the last one's, and not after today
+after-last : (c : tie.After-hold Inv-loop μ-loop) → by-hold c .before .loop .from .0 < dayOf (by-hold c)
+after-last c = omega (arith, by-last (by-today c .before) .if1 .left)
+
+in-time : (c : tie.After-hold Inv-loop μ-loop) → dayOf (by-hold c) ≤ by-hold c .before .before .args .today .0
+in-time c = omega (arith, by-today c .if2 .left)
+
 elapse-requires : tie.Need-elapse-requires Inv-loop μ-loop
 elapse-requires c κs =
     let h = c .before .before .before in
     let k = by-hold h in
     let l = k .before .loop in
     let s = k .before .before in
-    let later = h .before .before in
-    (l .inv .3, ((omega (arith, later .before .before .before .if1 .left), omega (arith, later .if2 .left, s .pre .0 .1), s .pre .0 .2), l .inv .2))
+    (l .inv .3, ((omega (arith, after-last h), omega (arith, in-time h, s .pre .0 .1), s .pre .0 .2), l .inv .2))
 
 -- the days up to the settlement
 ways : (c : tie.Joined3-2 Inv-loop μ-loop)
@@ -149,11 +164,10 @@ ways c =
     let l = k .before .loop in
     let s = k .before .before in
     let at-end = Went (s .args .rated) (s .args .t2) (l .account) (l .from .0) (dayOf k) in
-    let later = h .before .before in
     ⊎-elim (λ w. subst at-end (sym (w .4)) (w .3 .ensures))
     (λ w. subst at-end (sym (w .1))
     (went (s .args .rated) (s .args .t2) (orders-room s) (l .at) (l .from .0) (l .inv .2) (l .account) (l .account) (l .from .0) (dayOf k)
-    (omega arith) (omega (arith, later .before .before .before .if1 .left))
+    (omega arith) (omega (arith, after-last h))
     (λ lt. ⊎-elim (λ v. ltb-false _ _ (v .2 .left)) (λ v. absurd (omega (arith, v .left))) (w .0 .came)) (l .inv .3) (λ _. elapsed-none _ _ _)
     (h .hold .result) (h .hold .ensures .0) (h .hold .ensures .1)))
     (c .if3 .came)
@@ -170,14 +184,10 @@ passed : (c : tie.After-account Inv-loop μ-loop)
     (by-account c .if3 .passed .account) (by-account c .if3 .passed .at)
 passed c = ways (by-account c) .0 (not-false (by-account c .if3 .passed .ordered) (c .before .if5 .left))
 
--- the settlement's day is not after today
-in-time : (c : tie.Joined3-2 Inv-loop μ-loop) → dayOf (by-passed c) ≤ by-passed c .before .before .args .today .0
-in-time c = omega (arith, c .before .before .before .if2 .left)
-
 fits-there : (c : tie.After-account Inv-loop μ-loop) → Fits (by-account c .if3 .passed .account)
 fits-there c =
     let s = by-passed (by-account c) .before .before in
-    fits _ (by-account c .if3 .passed .account) (omega (arith, in-time (by-account c), s .pre .0 .1)) (passed c .bounded)
+    fits _ (by-account c .if3 .passed .account) (omega (arith, in-time (by-account c .before), s .pre .0 .1)) (passed c .bounded)
 
 -- the account and whether a settlement was over, behind this settlement
 paying : (c : tie.Joined6 Inv-loop μ-loop)
@@ -232,12 +242,12 @@ loop-again c =
     let l = k .before .loop in
     let s = k .before .before in (
       omega (arith, k .loop-test .taken),
-      in-time e,
+      in-time (e .before),
       passed (by-worth (c .before)) .come,
       paying c .0,
       l .inv .4
           ∙ timely-turn (s .args .t4) (s .args .settled) (room s) (l .from .0) (s .args .today .0) (l .i) (k .loop-test .taken)
-          (omega (arith, e .before .before .before .before .before .before .if1 .left)),
+          (after-last (e .before)),
       paying c .1,
     )
 
@@ -249,14 +259,14 @@ elapse-requires-2 c κs =
 
 -- the days up to today
 come : (c : tie.Else7 Inv-loop μ-loop)
-    → let l = c .before .before .before in
+    → let l = by-end (c .before) in
     Gone (l .before .args .rated) (l .before .args .t2) (l .loop .account) (l .loop .from .0) (l .before .args .today .0) (c .before .elapse2 .result .account)
     (c .before .elapse2 .result .at)
 come c = c .before .elapse2 .ensures .0 (not-false (c .before .elapse2 .result .ordered) (c .if7 .left))
 
 -- every test passed, so what is asked is the standing
 told : (c : tie.Else8 Inv-loop μ-loop)
-    → let l = by-rising (c .before) .before .before in
+    → let l = by-end (by-rising (c .before)) in
     let s = l .before in
     cond (l .loop .over) Overpaid (Standing (by-rising (c .before) .elapse2 .result .account))
     ≡ replayed (s .args .recognised .0) (s .args .t2) (s .args .rated) (s .args .t4) (s .args .settled) (s .args .today .0)
@@ -264,7 +274,7 @@ unfolding opening
 told c =
     let r = c .before in
     let g = come (r .before) in
-    let l = by-rising r .before .before in
+    let l = by-end (by-rising r) in
     let s = l .before in
     let schedule = g .come .left ∙ sym (r .are-rising .ensures) ∙ not-false (r .are-rising .result) (c .if8 .left) in
     let timely = l .loop .inv .4 ∙ all-timely (s .args .t4) (s .args .settled) (room s) (l .loop .from .0) (s .args .today .0) (l .loop .i) (omega (arith, by-rising r .before .loop-test .left)) (l .loop .inv .0) (l .loop .inv .1) in
@@ -277,15 +287,15 @@ told c =
     ∙ replays _ _ _ _ _ _ (s .pre .0 .0) (s .pre .0 .1) (s .pre .0 .2) (s .pre .0 .3) schedule timely
 
 returns-4 : tie.Need-returns-4 Inv-loop μ-loop
-returns-4 c = out (c .before .before .before .before) .0 (c .before .elapse2 .ensures .1 (not-true (c .before .elapse2 .result .ordered) (c .if7 .taken)))
+returns-4 c = out (by-end (c .before) .before) .0 (c .before .elapse2 .ensures .1 (not-true (c .before .elapse2 .result .ordered) (c .if7 .taken)))
 
 are-rising-requires : tie.Need-are-rising-requires Inv-loop μ-loop
-are-rising-requires c κs = (come c .come .within, c .before .before .before .before .pre .0 .2)
+are-rising-requires c κs = (come c .come .within, by-end (c .before) .before .pre .0 .2)
 
 returns-5 : tie.Need-returns-5 Inv-loop μ-loop
 returns-5 c =
     let r = c .before in
-    out (by-rising r .before .before .before) .0
+    out (by-end (by-rising r) .before) .0
     (come (r .before) .come .left ∙ sym (r .are-rising .ensures) ∙ not-true (r .are-rising .result) (c .if8 .taken))
 
 returns-6 : tie.Need-returns-6 Inv-loop μ-loop

@@ -18,19 +18,38 @@ ceding s = record { sound = s .pre .0; is-open = s .pre .1 .0; here = s .pre .1 
 most : (s : tie.Start) → s .args .book .count ≤ 64
 most s = s .pre .0 .when-open (s .pre .1 .0) .positions-most
 
--- at least one part, and no more than the cedent has
-abbrev asked : tie.Else2 → tie.Start
-asked c = c .before .before .before .before .before .before .before .before
+-- The way back to the start, from each place by the one before it
+abbrev by-has : tie.After-has → tie.Start
+by-has c = c .before .before .before
 
+abbrev by-parts : tie.After-struct-known → tie.Start
+by-parts c = by-has (c .before)
+
+abbrev by-share : tie.After-struct-known3 → tie.Else1
+by-share c = c .before .before
+
+abbrev asked : tie.Else2 → tie.Start
+asked c = by-parts (by-share (c .before) .before)
+
+abbrev by-find : tie.After-find → tie.Else2
+by-find c = c .before .before .before
+
+abbrev by-taker : tie.After-taker → tie.After-to
+by-taker c = c .before .before
+
+abbrev by-total : tie.After-struct-known7 → tie.After-to
+by-total c = by-taker (c .before .before)
+
+-- at least one part, and no more than the cedent has
 some : (c : tie.Else2) → asked c .args .parts .0 ≡ 0 → ⊥
-some c e = omega (arith, c .before .before .before .if1 .left)
+some c e = omega (arith, by-share (c .before) .if1 .left)
 
 enough : (c : tie.Else2) → asked c .args .parts .0 ≤ getD (asked c .args .book .positions) (asked c .args .from) noPosition .share .0
 enough c = omega (arith, c .if2 .left)
 
 -- the assignee is in the book
 abbrev with-assignee : tie.After-to → tie.Else2
-with-assignee c = c .before .before .before .before .before
+with-assignee c = by-find (c .before .before)
 
 abbrev found : tie.After-to → tie.Start
 found c = asked (with-assignee c)
@@ -44,7 +63,7 @@ hit c =
 
 -- it is not
 abbrev without : tie.After-enum-told → tie.Else2
-without c = c .before .before .before .before .before
+without c = by-find (c .before .before)
 
 abbrev searched : tie.After-enum-told → tie.Start
 searched c = asked (without c)
@@ -65,18 +84,16 @@ refused-requires c κs = search needs
 
 returns : tie.Need-returns
 returns c =
-    let s = c .before .before .before .before .before .before in
-    c .refused .ensures ∙ moved-none (ceding s) (s .args .assignee) (s .args .parts .0) (omega (arith, c .before .if1 .taken))
+    c .refused .ensures ∙ moved-none (ceding (by-parts (c .before .before))) _ _ (omega (arith, c .before .if1 .taken))
 
 refused-requires-2 : tie.Need-refused-requires-2
 refused-requires-2 c κs = search needs
 
 returns-2 : tie.Need-returns-2
 returns-2 c =
-    let o = c .before .before .before .before in
-    let s = o .before .before .before .before .before in
+    let o = by-share (c .before .before) in
     c .refused2 .ensures
-    ∙ moved-over (ceding s) (s .args .assignee) (s .args .parts .0) (λ e. omega (arith, o .if1 .left)) (omega (arith, c .before .if2 .taken))
+    ∙ moved-over (ceding (by-parts (o .before))) _ _ (λ e. omega (arith, o .if1 .left)) (omega (arith, c .before .if2 .taken))
 
 find-requires : tie.Need-find-requires
 find-requires c κs = search needs
@@ -93,23 +110,23 @@ array-copy-out-taker c = omega (arith, hit (c .before) .1, most (found (c .befor
 -- two shares of one book
 add-total : tie.Need-add-total
 add-total c =
-    let f = c .before .before .before .before in
+    let f = by-total c in
     let s = found f in
     let has = share-most (ceding s) (s .args .from) (s .pre .1 .1 .0 .1) in
     let takes = share-most (ceding s) (f .to .given .0 .0) (hit f .1) in
     omega (arith, has, takes, enough (with-assignee f))
 
 mul-positions : tie.Need-mul-positions
-mul-positions c = omega (arith, most (found (c .before .before .before .before)))
+mul-positions c = omega (arith, most (found (by-total c)))
 
 array-set-from-positions : tie.Need-array-set-from-positions
-array-set-from-positions c = omega (arith, most (found (c .before .before .before .before)))
+array-set-from-positions c = omega (arith, most (found (by-total c)))
 
 mul-positions-2 : tie.Need-mul-positions-2
-mul-positions-2 c = let f = c .before .before .before .before in omega (arith, hit f .1, most (found f))
+mul-positions-2 c = let f = by-total c in omega (arith, hit f .1, most (found f))
 
 array-set-from-positions-2 : tie.Need-array-set-from-positions-2
-array-set-from-positions-2 c = let f = c .before .before .before .before in omega (arith, hit f .1, most (found f))
+array-set-from-positions-2 c = let f = by-total c in omega (arith, hit f .1, most (found f))
 
 enum-told : tie.Need-enum-told
 enum-told c = search needs
@@ -120,10 +137,9 @@ refused-requires-3 c κs = search needs
 returns-3 : tie.Need-returns-3
 returns-3 c =
     let m = c .before .before in
-    let s = searched m in
     let o = without m in
     c .refused3 .ensures
-    ∙ moved-full (ceding s) (s .args .assignee) (s .args .parts .0) (some o) (enough o) (missed m) (omega (arith, c .before .if3 .taken))
+    ∙ moved-full (ceding (asked o)) _ _ (some o) (enough o) (missed m) (omega (arith, c .before .if3 .taken))
 
 mul-positions-3 : tie.Need-mul-positions-3
 mul-positions-3 c = search needs
@@ -142,17 +158,16 @@ add-in-use c = search needs
 
 returns-4 : tie.Need-returns-4
 returns-4 c =
-    let f = c .before .before .before .before in
+    let f = by-total c in
     let s = found f in
     let o = with-assignee f in
-    moved-between (ceding s) (s .args .assignee) (s .args .parts .0) (some o) (enough o) (f .to .given .0 .0) (s .pre .1 .1 .1) (hit f .0) (hit f .1)
+    moved-between (ceding s) _ _ (some o) (enough o) _ (s .pre .1 .1 .1) (hit f .0) (hit f .1)
 
 returns-5 : tie.Need-returns-5
 returns-5 c =
     let m = c .before in
-    let s = searched m in
     let o = without m in
-    moved-last (ceding s) (s .args .assignee) (s .args .parts .0) (some o) (enough o) (missed m) (omega (arith, c .if3 .left))
+    moved-last (ceding (asked o)) _ _ (some o) (enough o) (missed m) (omega (arith, c .if3 .left))
 
 pub move-parts-spec : {M : Type 1} → statement M
 move-parts-spec =

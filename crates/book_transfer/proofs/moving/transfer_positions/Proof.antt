@@ -12,25 +12,35 @@ use Rattle.book_model.proofs.Callers.{length-held, sound, found-at, found-nothi
 use Rattle.book_transfer.proofs.moving.transfer_positions.Statement.{statement}
 use Rattle.book_transfer.proofs.moving.transfer_positions.Tie as tie
 
--- both numbers are holders'
+-- The way back to the start, from each place by the one before it
+abbrev by-cedent : tie.After-is-holder → tie.Start
+by-cedent c = c .before .before
+
+abbrev by-assignee : tie.After-is-holder2 → tie.After-is-holder
+by-assignee c = c .before .before
+
 abbrev asked : tie.Else3 → tie.Start
-asked c = c .before .before .before .before .before
+asked c = by-cedent (by-assignee (c .before))
 
-is-open : (c : tie.Else3) → not (asked c .args .book .opened) ≡ false
-is-open c = c .before .before .before .before .if1 .left
+abbrev by-find : tie.After-find → tie.Else3
+by-find c = c .before .before
 
-cedent-right : (c : tie.Else3) → not (isHolder (asked c .args .cedent)) ≡ false
-cedent-right c = ap not (sym (c .before .before .before .is-holder .ensures)) ∙ c .before .before .if2 .left
+-- the book is open, and both numbers are holders'
+is-open : (c : tie.After-is-holder) → not (by-cedent c .args .book .opened) ≡ false
+is-open c = c .before .if1 .left
+
+cedent-right : (c : tie.After-is-holder2) → not (isHolder (by-cedent (by-assignee c) .args .cedent)) ≡ false
+cedent-right c = ap not (sym (by-assignee c .is-holder .ensures)) ∙ c .before .if2 .left
 
 assignee-right : (c : tie.Else3) → not (isHolder (asked c .args .assignee)) ≡ false
 assignee-right c = ap not (sym (c .before .is-holder2 .ensures)) ∙ c .if3 .left
 
 open-sound : (c : tie.Else3) → OpenSound (asked c .args .book)
-open-sound c = let s = asked c in sound (s .args .book) (s .pre) .when-open (not-false (s .args .book .opened) (is-open c))
+open-sound c = let s = asked c in sound (s .args .book) (s .pre) .when-open (not-false _ (is-open (by-assignee (c .before))))
 
 -- the cedent is in the book
 abbrev passed : tie.After-from → tie.Else3
-passed c = c .before .before .before .before
+passed c = by-find (c .before .before)
 
 hit : (c : tie.After-from)
     → (c .from .given .0 .0 ≡ place (asked (passed c) .args .cedent) (held (asked (passed c) .args .book)))
@@ -48,8 +58,7 @@ refused-requires c κs = search needs
 
 returns : tie.Need-returns
 returns c =
-    let a = c .before .before .args in
-    c .refused .ensures ∙ transfer-unopened (a .book) (a .cedent) (a .assignee) (a .parts) (c .before .if1 .taken)
+    c .refused .ensures ∙ transfer-unopened _ _ _ _ (c .before .if1 .taken)
 
 is-holder-requires : tie.Need-is-holder-requires
 is-holder-requires c κs = search needs
@@ -59,10 +68,9 @@ refused-requires-2 c κs = search needs
 
 returns-2 : tie.Need-returns-2
 returns-2 c =
-    let a = c .before .before .before .before .args in
+    let k = c .before .before in
     c .refused2 .ensures
-    ∙ transfer-cedent (a .book) (a .cedent) (a .assignee) (a .parts) (c .before .before .before .if1 .left)
-    (ap not (sym (c .before .before .is-holder .ensures)) ∙ c .before .if2 .taken)
+    ∙ transfer-cedent _ _ _ _ (is-open k) (ap not (sym (k .is-holder .ensures)) ∙ c .before .if2 .taken)
 
 is-holder-requires-2 : tie.Need-is-holder-requires-2
 is-holder-requires-2 c κs = search needs
@@ -72,11 +80,9 @@ refused-requires-3 c κs = search needs
 
 returns-3 : tie.Need-returns-3
 returns-3 c =
-    let a = c .before .before .before .before .before .before .args in
+    let k = c .before .before in
     c .refused3 .ensures
-    ∙ transfer-assignee (a .book) (a .cedent) (a .assignee) (a .parts) (c .before .before .before .before .before .if1 .left)
-    (ap not (sym (c .before .before .before .before .is-holder .ensures)) ∙ c .before .before .before .if2 .left)
-    (ap not (sym (c .before .before .is-holder2 .ensures)) ∙ c .before .if3 .taken)
+    ∙ transfer-assignee _ _ _ _ (is-open (by-assignee k)) (cedent-right k) (ap not (sym (k .is-holder2 .ensures)) ∙ c .before .if3 .taken)
 
 find-requires : tie.Need-find-requires
 find-requires c κs = search needs
@@ -97,32 +103,32 @@ returns-4 : tie.Need-returns-4
 returns-4 c =
     let f = c .before .before .before in
     let t = passed f in
-    let a = asked t .args in
+    let k = t .before in
     c .refused5 .ensures
-    ∙ transfer-same (a .book) (a .cedent) (a .assignee) (a .parts) (is-open t) (cedent-right t) (assignee-right t) (hit f .2) (omega (arith, c .before .if4 .taken))
+    ∙ transfer-same _ _ _ _ (is-open (by-assignee k)) (cedent-right k) (assignee-right t) (hit f .2) (omega (arith, c .before .if4 .taken))
 
 move-parts-requires : tie.Need-move-parts-requires
 move-parts-requires c κs =
     let f = c .before .before in
-    let s = asked (passed f) in
-    (sound (s .args .book) (s .pre), (not-false _ (is-open (passed f)), ((hit f .0, hit f .1), λ e. omega (arith, c .if4 .left))))
+    let k = passed f .before in
+    (sound _ (asked (passed f) .pre), (not-false _ (is-open (by-assignee k)), ((hit f .0, hit f .1), λ e. omega (arith, c .if4 .left))))
 
 returns-5 : tie.Need-returns-5
 returns-5 c =
     let m = c .before in
-    let t = m .before .before .before .before in
+    let t = by-find (m .before .before) in
+    let k = t .before in
     let a = asked t .args in
     let away = found-nothing (held (a .book)) (a .cedent) (sym (m .enum-told .given .1) ∙ m .before .before .find .ensures) in
-    c .refused4 .ensures
-    ∙ transfer-unknown (a .book) (a .cedent) (a .assignee) (a .parts) (is-open t) (cedent-right t) (assignee-right t) away
+    c .refused4 .ensures ∙ transfer-unknown _ _ _ _ (is-open (by-assignee k)) (cedent-right k) (assignee-right t) away
 
 returns-6 : tie.Need-returns-6
 returns-6 c =
     let f = c .before .before .before in
     let t = passed f in
-    let a = asked t .args in
+    let k = t .before in
     c .move-parts .ensures
-    ∙ transfer-other (a .book) (a .cedent) (a .assignee) (a .parts) (is-open t) (cedent-right t) (assignee-right t) (hit f .2) (λ e. omega (arith, c .before .if4 .left))
+    ∙ transfer-other _ _ _ _ (is-open (by-assignee k)) (cedent-right k) (assignee-right t) (hit f .2) (λ e. omega (arith, c .before .if4 .left))
 
 pub transfer-positions-spec : {M : Type 1} → statement M
 transfer-positions-spec =
