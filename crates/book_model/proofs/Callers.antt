@@ -40,6 +40,3 @@ pub use Rattle.book_model.proofs.RateOrders.{annual-opened, rate-sets-f
 pub use Rattle.book_model.proofs.StandingKept.{Standing, standing}
 -- Stored rates follow one another by first day, so those that start before a day are the first ones, and an order may follow them.
 pub use Rattle.book_model.proofs.StoredRates.{count-most, from-start-with, length-with, priced-with, stored, stored-in-use}
--- General laws, for the crates above that do not cite them by name.
-pub use Rattle.general_laws.proofs.Choice.{both-true, by-order, by-test, choice, neither-true, true-not-false}
-pub use Rattle.general_laws.proofs.Totals.{total-most-of}

@@ -4,7 +4,7 @@ use mathlib.Core.Bool.{Bool, true, cond, not, _&&_}
 use mathlib.Core.List.{List, [], _∷_, _++_}
 use lib.Dec.{leb, ltb, eqb}
 use lib.ListN.{length, drop, set}
-pub use Rattle.general_laws.specs.Members.{all, distinct}
+use Rattle.general_laws.specs.Members.{all, distinct}
 use Rattle.general_laws.specs.Sums.{total}
 use Rattle.calendar.specs.Calendar.{isDate}
 use Rattle.book_model.specs.declared.Book.{Book}

@@ -4,10 +4,10 @@ use mathlib.Core.List.{List}
 use Prim.Native.Nat.{ℕ}
 use Rattle.book_model.specs.declared.Book.{Book}
 use Rattle.book_model.specs.Book.{emptyBook}
-use Rattle.file.specs.declared.LoadAnswer.{LoadAnswer}
-use Rattle.file.specs.declared.LoadAnswer.the-variants as answer
-use Rattle.file.specs.Load.{Outcome, answered, lineNamed, partStart, partEnd}
 use Rattle.lines.specs.Lines.{lineStart, lineEnd}
+use Rattle.file_model.specs.declared.LoadAnswer.{LoadAnswer}
+use Rattle.file_model.specs.declared.LoadAnswer.the-variants as answer
+use Rattle.file_model.specs.Load.{Outcome, answered, lineNamed, partStart, partEnd}
 
 answered-number : (a : LoadAnswer) (b : Book) → answered a emptyBook .number ≡ answered a b .number
 answered-number (answer.Accepted count) b = refl

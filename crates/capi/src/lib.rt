@@ -5,10 +5,10 @@ mod values;
 ghost use mathlib.Core.Path.{_≡_};
 ghost use Rattle.book_model.specs.Book.{emptyBook};
 ghost use Rattle.calendar.specs.Answers.{sumOf};
-ghost use Rattle.file.specs.Load.{loadOf};
-ghost use Rattle.lines.specs.Line.{lineOf};
+ghost use Rattle.line.specs.Line.{lineOf};
+ghost use Rattle.line.specs.Write.{writtenOf};
 ghost use Rattle.lines.specs.Lines.{lineStart, lineEnd};
-ghost use Rattle.lines.specs.Write.{writtenOf};
+ghost use Rattle.file_model.specs.Load.{loadOf};
 ghost use Rattle.rates.specs.Rate.{rateOf};
 ghost use Rattle.report.specs.Statement.{reportOf};
 use crate::values::bytes_in;
@@ -18,7 +18,7 @@ use crate::values::fields_in;
 use crate::values::number_in;
 use crate::values::rate_in;
 use book::Book;
-use lines::Fields;
+use line::Fields;
 
 // Loads a file on the empty book: the refused line's number, where it starts and ends in the file, and the count of the lines before E.
 #[no_mangle]
@@ -75,7 +75,7 @@ pub extern "C" fn taborumbra_read_line(
     ensures { λ _. ⌜ now (second .exit) ≡ lineOf (now (line .entry)) .1 .second ⌝ }
     ensures { λ _. ⌜ now (third .exit) ≡ lineOf (now (line .entry)) .1 .third ⌝ }
 {
-    let read = lines::read_line(line);
+    let read = line::read_line(line);
     let f = fields_in(read);
     *letter = f.letter;
     *date = f.date;
@@ -98,7 +98,7 @@ pub extern "C" fn taborumbra_write_line(
     ensures { λ r. ⌜ r ≡ writtenOf (record { letter = letter; date = date; first = first; second = second; third = third }) (now (out .entry)) .0 ⌝ }
     ensures { λ _. ⌜ now (out .exit) ≡ writtenOf (record { letter = letter; date = date; first = first; second = second; third = third }) (now (out .entry)) .1 ⌝ }
 {
-    let written = lines::write_line(
+    let written = line::write_line(
         out,
         Fields {
             letter,

@@ -2,14 +2,14 @@
 ghost use mathlib.Core.Path.{_≡_};
 ghost use Rattle.book_model.specs.Book.{emptyBook};
 ghost use Rattle.calendar.specs.Answers.{sumStated};
-ghost use Rattle.file.specs.Load.{answered};
-ghost use Rattle.lines.specs.Line.{readStated};
+ghost use Rattle.line.specs.Line.{readStated};
+ghost use Rattle.file_model.specs.Load.{answered};
 ghost use Rattle.rates.specs.Rate.{rateStated};
 ghost use Rattle.report.specs.Statement.{reportStated};
 use calendar::DateSum;
 use file::LoadAnswer;
-use lines::Fields;
-use lines::ReadAnswer;
+use line::Fields;
+use line::ReadAnswer;
 use rates::DailyRate;
 use report::Reported;
 

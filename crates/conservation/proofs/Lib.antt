@@ -18,3 +18,4 @@ pub mod Conserved
 pub mod ReachedBooks
 pub mod SteadyDays
 pub mod Examples
+pub mod Callers

@@ -11,7 +11,7 @@ use book::SettleAnswer;
 use book::TotalsAnswer;
 use book::TransferAnswer;
 use libc::STDOUT_FILENO;
-use lines::put_number;
+use line::put_number;
 
 fn put_text(text: &[u8]) {
     io::write_all(STDOUT_FILENO, text);

@@ -10,12 +10,12 @@ use Rattle.book_model.specs.Outcome as book-outcome
 use Rattle.book_model.specs.Outcome.{Answer}
 use Rattle.book_model.specs.Reached.{Reached}
 use Rattle.book_model.proofs.Callers.{call-reached}
-use Rattle.file.specs.declared.LoadAnswer.the-variants as answer
-use Rattle.file.specs.declared.LoadRefusal.the-variants as refusal
+use Rattle.file_model.specs.declared.LoadAnswer.the-variants as answer
+use Rattle.file_model.specs.declared.LoadRefusal.the-variants as refusal
+use Rattle.file_model.specs.Load.{refused, afterCall}
+use Rattle.file_model.proofs.Callers.{refusal-not-zero}
 use Rattle.file.specs.declared.turning.Next.the-variants.{On, Stop}
-use Rattle.file.specs.Load.{refused, afterCall}
 use Rattle.file.specs.Computation.{Calls}
-use Rattle.file.proofs.Turnings.{refusal-not-zero}
 
 -- a call's number and book
 pub record After : Type 0 where

@@ -9,17 +9,17 @@ use lib.Seq.{take-suc-set, length-take-le}
 use borrow.Author.Tests.{le-leb, lt-leb}
 use Rattle.book_model.specs.declared.Book.{Book}
 use Rattle.book_model.specs.declared.Refusal.the-variants as book-refusal
-use Rattle.lines.specs.declared.Fields.{Fields}
-use Rattle.lines.specs.declared.ReadAnswer.the-variants as read-answer
-use Rattle.lines.specs.Line.{readStated, lineOf}
+use Rattle.line.specs.declared.Fields.{Fields}
+use Rattle.line.specs.declared.ReadAnswer.the-variants as read-answer
+use Rattle.line.specs.Line.{readStated, lineOf}
 use Rattle.lines.specs.Lines.{lines, lineAt, endOf}
-use Rattle.lines.proofs.LinePositions.{first-byte, end-past, end-within}
-use Rattle.file.specs.declared.LoadRefusal.the-variants as refusal
+use Rattle.lines.proofs.Callers.{first-byte, end-past, end-within}
+use Rattle.file_model.specs.declared.LoadRefusal.the-variants as refusal
+use Rattle.file_model.specs.Order.{Finance, orderOf, orderIn}
+use Rattle.file_model.specs.Load.{Outcome, Waits, refused, openingWith, loadFrom}
+use Rattle.file_model.proofs.Callers.{order-read, order-malformed, letter-first}
 use Rattle.file.specs.declared.turning.Next.{Next}
-use Rattle.file.specs.Order.{Finance, orderOf, orderIn}
-use Rattle.file.specs.Load.{Outcome, Waits, refused, openingWith, loadFrom}
 use Rattle.file.specs.Computation.{saturated, gathered, Gathers}
-use Rattle.file.proofs.LineOrders.{order-read, order-malformed, letter-first}
 use Rattle.file.proofs.LoadSteps.{load-financing}
 use Rattle.file.proofs.Saturation.{alike-last, load-alike}
 

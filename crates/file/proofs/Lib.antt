@@ -1,18 +1,7 @@
--- Facts about the definitions. `LoadRuns`, `LoadAccepts`, `LoadFaults`, `LoadEnds` and `Examples` are what the crate states; the others are what
--- these and the code's proofs cite, and `LoadCallers` what callers cite.
-pub mod LineOrders
-pub mod LoadSteps
-pub mod LoadCases
-pub mod OpenBooks
-pub mod OpeningHolders
-pub mod Saturation
-pub mod FinancingLines
-pub mod Openings
-pub mod Turnings
-pub mod CallAnswers
-pub mod LoadRuns
-pub mod LoadAccepts
-pub mod LoadFaults
-pub mod LoadEnds
-pub mod Examples
-pub mod LoadCallers
+-- What the code's proofs cite: one line of a load by its position, a share that doesn't fit, and what each turn does.
+mod LoadSteps
+mod Saturation
+mod FinancingLines
+mod Openings
+mod Turnings
+mod CallAnswers

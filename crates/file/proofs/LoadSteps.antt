@@ -11,10 +11,10 @@ use borrow.Author.Tests.{eq-eqb, ne-eqb}
 use Rattle.book_model.specs.declared.Book.{Book}
 use Rattle.book_model.specs.Call.{Opening}
 use Rattle.lines.specs.Lines.{lines, lineAt, endOf}
-use Rattle.lines.proofs.LinePositions.{lines-at, lines-end, first-byte, end-within}
-use Rattle.file.specs.declared.LoadRefusal.the-variants as refusal
-use Rattle.file.specs.Order.{orderIn}
-use Rattle.file.specs.Load.{Waiting, None, Waits, refused, noneLeft, beginsWithF, financed, afterOpen, afterFinancing, afterLine, loadFrom}
+use Rattle.lines.proofs.Callers.{lines-at, lines-end, first-byte, end-within}
+use Rattle.file_model.specs.declared.LoadRefusal.the-variants as refusal
+use Rattle.file_model.specs.Order.{orderIn}
+use Rattle.file_model.specs.Load.{Waiting, None, Waits, refused, noneLeft, beginsWithF, financed, afterOpen, afterFinancing, afterLine, loadFrom}
 
 -- no line is left at the file's end, and only there
 none-left : (s : List ℕ) (at : ℕ) → at ≤ length s → noneLeft (lines (drop at s)) ≡ eqb at (length s)

@@ -12,16 +12,16 @@ use Rattle.book_model.specs.declared.OpenAnswer.the-variants as open-answer
 use Rattle.book_model.specs.Outcome.{openCase, openStated}
 use Rattle.book_model.specs.Call.{Opening}
 use Rattle.book_model.specs.Calls.{openedWith}
-use Rattle.lines.specs.declared.Fields.{Fields}
+use Rattle.line.specs.declared.Fields.{Fields}
 use Rattle.lines.specs.Lines.{lines}
-use Rattle.file.specs.declared.LoadAnswer.{LoadAnswer}
-use Rattle.file.specs.declared.LoadRefusal.the-variants as refusal
+use Rattle.file_model.specs.declared.LoadAnswer.{LoadAnswer}
+use Rattle.file_model.specs.declared.LoadRefusal.the-variants as refusal
+use Rattle.file_model.specs.Load.{Outcome, None, Waits, refused, openingWith, afterCall, afterOpen, loadFrom}
+use Rattle.file_model.proofs.Callers.{refusal-not-zero}
 use Rattle.file.specs.declared.financing.Financing.{Financing}
 use Rattle.file.specs.declared.turning.Next.{Next}
 use Rattle.file.specs.declared.turning.Next.the-variants.{On, Stop}
-use Rattle.file.specs.Load.{Outcome, None, Waits, refused, openingWith, afterCall, afterOpen, loadFrom}
 use Rattle.file.specs.Computation.{stopped, Gathers, gatheredBy}
-use Rattle.file.proofs.Turnings.{refusal-not-zero}
 
 module _ (s : List ℕ) (before b : Book) (line : ℕ) (f : Fields) (at : ℕ) (g : Financing) (gathers : Gathers s at line g) where
   -- the load from the F lines on

@@ -1,35 +1,27 @@
 -- What the line at a position does where no opening waits, by the answer of reading it.
 use mathlib.Core.Path.{_≡_, refl, sym, ap, _∙_}
-use mathlib.Core.Bool.{Bool, false}
+use mathlib.Core.Bool.{Bool}
 use mathlib.Core.List.{List, []}
 use Prim.Native.Nat.{ℕ, _+_, _≤_, _<_}
 use native.Mathlib.Omega.{arith}
 use lib.Dec.{eqb}
 use lib.ListN.{length, getD, drop}
-use borrow.Author.Tests.{ne-eqb, eqb-true, eqb-false}
+use borrow.Author.Tests.{eqb-true, eqb-false}
 use Rattle.book_model.specs.declared.Book.{Book}
 use Rattle.book_model.specs.Call.{Call, Advance, Rate, Transfer, Settle}
-use Rattle.book_model.proofs.Callers.{no-refusal-is-0, by-test, choice}
-use Rattle.lines.specs.declared.Fields.{Fields}
-use Rattle.lines.specs.declared.ReadAnswer.the-variants as read-answer
-use Rattle.lines.specs.Line.{readStated, lineOf}
+use Rattle.general_laws.proofs.Choice.{by-test, choice}
+use Rattle.line.specs.declared.Fields.{Fields}
+use Rattle.line.specs.declared.ReadAnswer.the-variants as read-answer
+use Rattle.line.specs.Line.{readStated, lineOf}
 use Rattle.lines.specs.Lines.{lines, lineAt, endOf}
-use Rattle.lines.proofs.LinePositions.{first-byte, end-past, end-within}
-use Rattle.file.specs.declared.LoadRefusal.{LoadRefusal}
-use Rattle.file.specs.declared.LoadRefusal.the-variants as refusal
+use Rattle.lines.proofs.Callers.{first-byte, end-past, end-within}
+use Rattle.file_model.specs.declared.LoadRefusal.the-variants as refusal
+use Rattle.file_model.specs.Order.{Order, Open, Finance, Later, End, Malformed, orderOf, orderIn}
+use Rattle.file_model.specs.Load.{Outcome, Waiting, None, Waits, refused, openingWith, ended, afterLine, loadFrom}
+use Rattle.file_model.proofs.Callers.{order-read, order-malformed, letter-first}
 use Rattle.file.specs.declared.turning.Turn.{Turn}
-use Rattle.file.specs.Order.{Order, Open, Finance, Later, End, Malformed, orderOf, orderIn}
-use Rattle.file.specs.Load.{Outcome, Waiting, None, Waits, refusalNumber, refused, openingWith, ended, afterLine, loadFrom}
 use Rattle.file.specs.Computation.{wentOn, Calls, NoCall, Continues, Turns}
-use Rattle.file.proofs.LineOrders.{order-read, order-malformed, letter-first}
 use Rattle.file.proofs.LoadSteps.{load-line, load-unplaced}
-
--- no refusal has the number 0
-pub refusal-not-zero : (r : LoadRefusal) → eqb (refusalNumber r) 0 ≡ false
-refusal-not-zero refusal.Empty = refl
-refusal-not-zero refusal.Line = refl
-refusal-not-zero refusal.Unfinished = refl
-refusal-not-zero (refusal.Call r) = ne-eqb _ 0 (no-refusal-is-0 r)
 
 -- What a line orders, by its letter
 

@@ -10,14 +10,14 @@ use Rattle.book_model.specs.Call.{Call}
 use Rattle.book_model.specs.Calls.{bookAfter, numberOf}
 use Rattle.book_model.specs.Reached.{Reached}
 use Rattle.lines.specs.Lines.{lines}
-use Rattle.file.specs.declared.LoadAnswer.{LoadAnswer}
-use Rattle.file.specs.declared.LoadAnswer.the-variants as answer
+use Rattle.file_model.specs.declared.LoadAnswer.{LoadAnswer}
+use Rattle.file_model.specs.declared.LoadAnswer.the-variants as answer
+use Rattle.file_model.specs.Order.{Order, Open, Finance, Later, End, Malformed}
+use Rattle.file_model.specs.Load.{Outcome, Waiting, None, Waits, accepted, refused, openingWith, ended, afterCall, afterOpen, afterLine, loadFrom}
 use Rattle.file.specs.declared.turning.Next.{Next}
 use Rattle.file.specs.declared.turning.Next.the-variants as next
 use Rattle.file.specs.declared.turning.Turn.{Turn}
 use Rattle.file.specs.declared.financing.Financing.{Financing}
-use Rattle.file.specs.Order.{Order, Open, Finance, Later, End, Malformed}
-use Rattle.file.specs.Load.{Outcome, Waiting, None, Waits, accepted, refused, openingWith, ended, afterCall, afterOpen, afterLine, loadFrom}
 
 -- a share as 32 bits hold it: the greatest for all beyond, which Open refuses just the same
 abbrev pub saturated : ℕ → ℕ

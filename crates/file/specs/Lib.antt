@@ -1,6 +1,2 @@
--- The definitions that the contracts cite, and the theorems about them. `Computation` is cited by private contracts alone.
-pub mod Order
-pub mod Load
+-- What the parts of the load do, cited by private contracts alone. The load's own definition stands in `file_model`.
 pub mod Computation
-pub mod Loads
-pub mod Examples

@@ -3,8 +3,6 @@
 ghost use Rattle.book_model.specs.Call.{Advance, Rate, Transfer, Settle};
 ghost use Rattle.book_model.specs.Reached.{Reached};
 ghost use Rattle.file.specs.Computation.{Calls};
-use crate::LoadAnswer;
-use crate::LoadRefusal;
 use crate::turning::Next;
 use crate::turning::Turn;
 use book::AdvanceAnswer;
@@ -14,6 +12,8 @@ use book::Parts;
 use book::RateAnswer;
 use book::SettleAnswer;
 use book::TransferAnswer;
+use file_model::LoadAnswer;
+use file_model::LoadRefusal;
 
 pub fn advance_line(book: Book, date: u32, at: usize, lines: usize) -> Turn
     requires { ⌜ Reached book ⌝ }

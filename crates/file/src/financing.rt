@@ -3,12 +3,11 @@ ghost use mathlib.Core.Path.{_≡_};
 ghost use Prim.Native.Nat.{_≤_};
 ghost use lib.ListN.{length};
 ghost use Rattle.file.specs.Computation.{saturated, Gathers};
-use crate::LoadAnswer;
-use crate::LoadRefusal;
 use crate::turning::Next;
 use book::Book;
-use lines::Fields;
-use lines::ReadAnswer;
+use file_model::LoadAnswer;
+use file_model::LoadRefusal;
+use line::ReadAnswer;
 
 // The greatest u32.
 const GREATEST: u64 = 4294967295;

@@ -1,4 +1,5 @@
-// The order file (document 01, "Order file"): loaded on a book, all or nothing, and the refused line as a part of the file.
+// The order file (document 01, "Order file"): loaded on a book, all or nothing, and the refused line as a part of the file. What holds of every load
+// is the theorem of the crate `file_model`.
 mod calls;
 mod financing;
 mod loading;
@@ -7,59 +8,6 @@ mod turning;
 pub use crate::loading::load;
 pub use crate::loading::part_bounds;
 pub use crate::loading::refused_part;
-ghost use mathlib.Core.Path.{_≡_};
-ghost use Rattle.file.specs.Load.{refusalNumber, lineNamed};
-ghost use Rattle.file.specs.Loads.{Loads};
-ghost use Rattle.file.specs.Examples.{Examples};
-use book::Book;
-
-// Why a file is refused, in document 01's trade words: the file itself, one of its lines, or a call of the book.
-pub enum LoadRefusal {
-    Empty,
-    Line,
-    Unfinished,
-    Call(book::Refusal),
-}
-
-impl LoadRefusal {
-    // Its number in document 01's table.
-    pub fn number(self) -> u32
-        ensures { λ r. ⌜ r ≡ refusalNumber self ⌝ }
-    {
-        match self {
-            LoadRefusal::Empty => 20,
-            LoadRefusal::Line => lines::MALFORMED,
-            LoadRefusal::Unfinished => 22,
-            LoadRefusal::Call(refusal) => refusal.number(),
-        }
-    }
-}
-
-// The count of the lines before E, or why the file is refused and the number of the line at fault.
-pub enum LoadAnswer {
-    Accepted(usize),
-    Refused { refusal: LoadRefusal, line: usize },
-}
-
-impl LoadAnswer {
-    // The number of the refused line, 0 for none.
-    pub fn line(self) -> usize
-        ensures { λ r. ⌜ r ≡ lineNamed self ⌝ }
-    {
-        match self {
-            LoadAnswer::Accepted(_) => 0,
-            LoadAnswer::Refused { refusal: _, line } => line,
-        }
-    }
-}
-
-pub struct Loaded {
-    pub answer: LoadAnswer,
-    pub book: Book,
-}
-
-// What holds of every file and book: which book an accepted file leaves, and that a cut-off one is refused. And document 01's example file.
-// It does nothing.
-pub fn theorems()
-    ensures { λ r. ⌜ Loads × Examples ⌝ }
-{}
+pub use file_model::LoadAnswer;
+pub use file_model::LoadRefusal;
+pub use file_model::Loaded;

@@ -2,12 +2,9 @@
 ghost use mathlib.Core.Path.{_≡_};
 ghost use Rattle.book_model.specs.Reached.{Reached};
 ghost use Rattle.lines.specs.Lines.{partOf};
-ghost use Rattle.file.specs.Load.{loadStated, loadOf, partStart, partEnd};
-ghost use Rattle.file.specs.Load as load;
+ghost use Rattle.file_model.specs.Load.{loadStated, loadOf, partStart, partEnd};
+ghost use Rattle.file_model.specs.Load as load;
 ghost use Rattle.file.specs.Computation.{stopped};
-use crate::LoadAnswer;
-use crate::LoadRefusal;
-use crate::Loaded;
 use crate::calls::advance_line;
 use crate::calls::rate_line;
 use crate::calls::settle_line;
@@ -16,8 +13,11 @@ use crate::turning::Next;
 use crate::turning::Turn;
 use crate::turning::other_turn;
 use book::Book;
+use file_model::LoadAnswer;
+use file_model::LoadRefusal;
+use file_model::Loaded;
+use line::ReadAnswer;
 use lines::Bounds;
-use lines::ReadAnswer;
 
 // An accepted load keeps the book that it came to, a refused one the book that came in.
 pub fn concluded(answer: LoadAnswer, after: Book, before: Book) -> Loaded

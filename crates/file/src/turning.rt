@@ -3,17 +3,17 @@ ghost use Prim.Native.Nat.{_+_, _≤_, _<_, _^_};
 ghost use lib.ListN.{length};
 ghost use mathlib.Core.List.{[]};
 ghost use Rattle.book_model.specs.Reached.{Reached};
-ghost use Rattle.file.specs.Load.{Waits, openingWith};
-ghost use Rattle.file.specs.Order.{orderOf};
+ghost use Rattle.file_model.specs.Load.{Waits, openingWith};
+ghost use Rattle.file_model.specs.Order.{orderOf};
 ghost use Rattle.file.specs.Computation.{Ends, Turns, NoCall, Continues};
-use crate::LoadAnswer;
-use crate::LoadRefusal;
 use crate::financing::gather;
 use book::Book;
 use book::Cents;
 use book::Day;
 use book::OpenAnswer;
-use lines::Fields;
+use file_model::LoadAnswer;
+use file_model::LoadRefusal;
+use line::Fields;
 
 pub enum Next {
     On,

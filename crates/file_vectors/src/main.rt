@@ -5,8 +5,8 @@ use book::Book;
 use book::PlaceAnswer;
 use file::LoadAnswer;
 use libc::STDIN_FILENO;
-use lines::Fields;
-use lines::ReadAnswer;
+use line::Fields;
+use line::ReadAnswer;
 
 // The most bytes of the input.
 const INPUT: usize = 524288;
@@ -87,7 +87,7 @@ fn load(book: Book, file: &[u8]) -> Book
 
 // Writes a line into a buffer, and prints its number and the buffer's digest.
 fn write(buffer: &mut [u8], f: Fields) {
-    let answer = lines::write_line(buffer, f);
+    let answer = line::write_line(buffer, f);
     cases::put(answer.number() as u64, b' ');
     cases::put(cases::digest(buffer), b'\n');
 }
@@ -133,7 +133,7 @@ fn put_fields(number: u64, f: Fields) {
 }
 
 fn read(line: &[u8]) {
-    let answer = lines::read_line(line);
+    let answer = line::read_line(line);
     match answer {
         ReadAnswer::Read(f) => put_fields(0, f),
         ReadAnswer::Malformed => put_fields(

@@ -1,12 +1,5 @@
--- Facts about the definitions. `LineRoundTrip`, `LineParts` and `Examples` are what the crate states, the others are what proofs cite.
-pub mod FieldBounds
-pub mod Stores
-pub mod FieldRoundTrip
-pub mod FieldReading
-pub mod LineStores
-pub mod LineRoundTrip
-pub mod LinePositions
-pub mod LineParts
-pub mod LineColumns
-pub mod Examples
-pub mod NumberPut
+-- Facts about the definitions. `LineParts` is what the crate states, `Callers` what callers cite, the others are what proofs here cite.
+mod LinePositions
+mod LineParts
+mod LineColumns
+pub mod Callers

@@ -1,14 +1,13 @@
 // A reading position over a lent file, which moves line by line.
 ghost use mathlib.Core.Path.{_≡_};
-ghost use Rattle.lines.specs.Line.{readStated, lineOf};
+ghost use Rattle.line.specs.Line.{readStated, lineOf};
 ghost use Rattle.lines.specs.Lines.{lineAt, endOf};
 use crate::Moved;
-use crate::ReadAnswer;
 use crate::Reader;
 use crate::Step;
-use crate::line::LINE_BYTES;
-use crate::line::read_line;
 use crate::position::line_end;
+use line::LINE_BYTES;
+use line::ReadAnswer;
 
 // The line at a position, read before its end is known: no other length is well-formed, and no column of a well-formed line is a line feed.
 pub fn line_at(file: &[u8], at: usize) -> ReadAnswer
@@ -21,7 +20,7 @@ pub fn line_at(file: &[u8], at: usize) -> ReadAnswer
         return ReadAnswer::Malformed;
     }
     let end = at + LINE_BYTES;
-    read_line(&file[at..end])
+    line::read_line(&file[at..end])
 }
 
 // The line at a position, and the position behind it. At the file's end the line is empty, so malformed, and the position stays.

@@ -7,12 +7,11 @@ use Rattle.book_model.specs.declared.Position.{Position}
 use Rattle.book_model.specs.Book.{emptyBook, held}
 use Rattle.book_model.specs.Outcome.{Totals, answered}
 use Rattle.book_model.specs.Read.{totalsOf}
-use Rattle.file.specs.Examples.{paperFile, loaded}
-use Rattle.file.specs.Load.{Outcome}
-use Rattle.file.specs.Loads.{endAlone}
-use Rattle.file.proofs.Examples as file
-use Rattle.file.proofs.LoadFaults.{end-alone}
-use Rattle.lines.specs.Field.{padded, justified}
+use Rattle.line.specs.Field.{padded, justified}
+use Rattle.file_model.specs.Examples.{paperFile, loaded}
+use Rattle.file_model.specs.Load.{Outcome}
+use Rattle.file_model.specs.Loads.{endAlone}
+use Rattle.file_model.proofs.Callers as loads
 use Rattle.report.specs.Statement.{totalsLine, positionLine, positionLines, refusalLine, bookPrinted, printed, statementOf}
 use Rattle.report.specs.Statements.{paperStatement, emptyFileStatement}
 use Rattle.report.proofs.StatementLengths.{empty-prints-nothing}
@@ -26,12 +25,12 @@ figures-printed o today a ps number totals positions = rw (number, totals, posit
 pub paper-printed : statementOf paperFile ≡ paperStatement
 unfolding statementOf totalsLine positionLine positionLines justified padded
 paper-printed =
-    figures-printed (loaded paperFile) _ _ _ (file.examples .paper-accepted) (file.examples .paper-totals) (file.examples .paper-positions)
+    figures-printed (loaded paperFile) _ _ _ (loads.examples .paper-accepted) (loads.examples .paper-totals) (loads.examples .paper-positions)
 
 pub empty-file-printed : statementOf [] ≡ emptyFileStatement
 unfolding statementOf printed refusalLine justified padded
-empty-file-printed = ap printed (file.examples .empty-file)
+empty-file-printed = ap printed (loads.examples .empty-file)
 
 pub end-alone-printed : statementOf endAlone ≡ []
 unfolding statementOf printed emptyBook
-end-alone-printed = ap printed (end-alone emptyBook) ∙ empty-prints-nothing emptyBook refl
+end-alone-printed = ap printed (loads.end-alone emptyBook) ∙ empty-prints-nothing emptyBook refl

@@ -11,12 +11,14 @@ use Rattle.book_model.specs.declared.Book.{Book}
 use Rattle.book_model.specs.declared.Position.{Position}
 use Rattle.book_model.specs.Book.{emptyBook, held}
 use Rattle.account.specs.Opening.{opening}
-use Rattle.book_model.specs.Open.{all}
+use Rattle.general_laws.specs.Members.{all}
 use Rattle.book_model.specs.Outcome.{noPosition}
 use Rattle.book_model.specs.Positions.{isHolder, holders}
 use Rattle.book_model.specs.Reached.{Reached}
 use Rattle.book_model.specs.Invariant.{OpenSound}
-use Rattle.book_model.proofs.Callers.{by-test, both-true, sound, total-most-of}
+use Rattle.general_laws.proofs.Choice.{by-test, both-true}
+use Rattle.general_laws.proofs.Totals.{total-most-of}
+use Rattle.book_model.proofs.Callers.{sound}
 use Rattle.report.specs.Statements.{TotalsFit, PositionFits}
 
 -- a reached book is the empty one, or open and sound

@@ -1,9 +1,9 @@
--- Facts about the definitions. `StatementLengths`, `FiguresFit` and `Examples` are what the crate states, `ReportCallers` is what callers cite, the
+-- Facts about the definitions. `StatementLengths`, `FiguresFit` and `Examples` are what the crate states, `Callers` is what callers cite, the
 -- others are what the code's proofs cite.
-pub mod StatementLengths
-pub mod FiguresFit
-pub mod Examples
-pub mod LineBytes
-pub mod PositionsPut
-pub mod StatementPut
-pub mod ReportCallers
+mod StatementLengths
+mod FiguresFit
+mod Examples
+mod LineBytes
+mod PositionsPut
+mod StatementPut
+pub mod Callers

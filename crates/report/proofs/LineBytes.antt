@@ -4,16 +4,13 @@ use mathlib.Core.List.{List, [], _∷_, _++_}
 use Prim.Native.Nat.{ℕ, suc, _+_, _≤_}
 use native.Mathlib.Numerals.{add-one}
 use native.Mathlib.Omega.{arith}
-use lib.Dec.{leb}
 use lib.ListN.{length, set, length-set}
-use lib.Seq.{sets, length-sets}
+use lib.Seq.{sets}
 use Rattle.account.specs.declared.Account.{Account}
 use Rattle.book_model.specs.declared.Position.{Position}
-use Rattle.book_model.proofs.Callers.{choice}
-use Rattle.lines.specs.Field.{justified}
-use Rattle.lines.specs.Write.{numberPut}
-use Rattle.lines.proofs.NumberPut.{put-within, length-put}
-use Rattle.lines.proofs.Stores.{sets-append, length-justified}
+use Rattle.line.specs.Field.{justified}
+use Rattle.line.specs.Write.{numberPut}
+use Rattle.line.proofs.Callers.{put-within, length-put, sets-append, length-justified}
 use Rattle.report.specs.Statement.{totalsLine, positionLine, refusalLine}
 
 -- A number put into a buffer

@@ -16,8 +16,9 @@ use Rattle.book_model.specs.Book.{held}
 use Rattle.book_model.specs.Outcome.{noPosition, placeStated}
 use Rattle.book_model.specs.Reached.{Reached}
 use Rattle.book_model.specs.Read.{positionAt}
-use Rattle.book_model.proofs.Callers.{no-refusal-is-0, by-order, length-held, sound, place-beyond, place-known}
-use Rattle.lines.proofs.Stores.{sets-append}
+use Rattle.general_laws.proofs.Choice.{by-order}
+use Rattle.book_model.proofs.Callers.{no-refusal-is-0, length-held, sound, place-beyond, place-known}
+use Rattle.line.proofs.Callers.{sets-append}
 use Rattle.report.specs.Statement.{positionLine, positionLines}
 use Rattle.report.proofs.StatementLengths.{positions-length}
 

@@ -12,10 +12,11 @@ use Rattle.book_model.specs.declared.Position.{Position}
 use Rattle.book_model.specs.Book.{emptyBook, held}
 use Rattle.book_model.specs.Reached.{Reached, empty}
 use Rattle.book_model.specs.Read.{totalsOf}
-use Rattle.book_model.proofs.Callers.{by-test, choice, length-held, sound}
-use Rattle.file.specs.Load.{loadOf}
-use Rattle.file.proofs.LoadRuns.{reached-kept}
-use Rattle.lines.proofs.Stores.{length-justified}
+use Rattle.general_laws.proofs.Choice.{by-test, choice}
+use Rattle.book_model.proofs.Callers.{length-held, sound}
+use Rattle.line.proofs.Callers.{length-justified}
+use Rattle.file_model.specs.Load.{loadOf}
+use Rattle.file_model.proofs.Callers.{reached-kept}
 use Rattle.report.specs.Statement.{totalsLine, positionLine, positionLines, refusalLine, bookPrinted, printed, statementOf}
 
 -- Lines

@@ -17,15 +17,16 @@ use Rattle.book_model.specs.declared.TotalsAnswer.the-variants as totals-answer
 use Rattle.book_model.specs.Book.{emptyBook, held}
 use Rattle.book_model.specs.Outcome.{Answer, Totals, totalsStated}
 use Rattle.book_model.specs.Read.{totalsOf}
-use Rattle.book_model.proofs.Callers.{no-refusal-is-0, by-test, totals-unopened}
-use Rattle.lines.specs.Line.{malformedNumber}
-use Rattle.lines.proofs.Stores.{sets-append}
-use Rattle.file.specs.declared.LoadAnswer.{LoadAnswer}
-use Rattle.file.specs.declared.LoadAnswer.the-variants as load-answer
-use Rattle.file.specs.declared.Loaded.{Loaded}
-use Rattle.file.specs.declared.LoadRefusal.{LoadRefusal}
-use Rattle.file.specs.Load.{refusalNumber, answered, loadStated, loadOf}
-use Rattle.file.proofs.Turnings.{refusal-not-zero}
+use Rattle.general_laws.proofs.Choice.{by-test}
+use Rattle.book_model.proofs.Callers.{no-refusal-is-0, totals-unopened}
+use Rattle.line.specs.Line.{malformedNumber}
+use Rattle.line.proofs.Callers.{sets-append}
+use Rattle.file_model.specs.declared.LoadAnswer.{LoadAnswer}
+use Rattle.file_model.specs.declared.LoadAnswer.the-variants as load-answer
+use Rattle.file_model.specs.declared.Loaded.{Loaded}
+use Rattle.file_model.specs.declared.LoadRefusal.{LoadRefusal}
+use Rattle.file_model.specs.Load.{refusalNumber, answered, loadStated, loadOf}
+use Rattle.file_model.proofs.Callers.{refusal-not-zero}
 use Rattle.report.specs.Statement.{totalsLine, positionLines, refusalLine, bookPrinted, printed, statementOf, reportOf}
 use Rattle.report.proofs.StatementLengths.{totals-length}
 

@@ -10,9 +10,9 @@ use Rattle.book_model.specs.declared.Book.{Book}
 use Rattle.book_model.specs.declared.Position.{Position}
 use Rattle.book_model.specs.Book.{emptyBook, held}
 use Rattle.book_model.specs.Read.{totalsOf}
-use Rattle.lines.specs.Field.{justified}
-use Rattle.lines.specs.Line.{malformedNumber}
-use Rattle.file.specs.Load.{Outcome, loadOf}
+use Rattle.line.specs.Field.{justified}
+use Rattle.line.specs.Line.{malformedNumber}
+use Rattle.file_model.specs.Load.{Outcome, loadOf}
 use Rattle.report.specs.declared.Reported.{Reported}
 use Rattle.report.specs.declared.Reported.the-variants.{Printed, Short}
 

@@ -10,8 +10,8 @@ use Rattle.book_model.specs.declared.Position.{Position}
 use Rattle.book_model.specs.Book.{held}
 use Rattle.book_model.specs.Outcome.{noPosition}
 use Rattle.book_model.specs.Reached.{Reached}
-use Rattle.file.specs.Examples.{paperFile}
-use Rattle.file.specs.Loads.{endAlone}
+use Rattle.file_model.specs.Examples.{paperFile}
+use Rattle.file_model.specs.Loads.{endAlone}
 use Rattle.report.specs.Statement.{totalsLine, positionLine, refusalLine, bookPrinted, statementOf}
 
 -- figures that their columns hold

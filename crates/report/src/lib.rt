@@ -22,7 +22,7 @@ impl Reported {
     {
         match self {
             Reported::Printed(_) => 0,
-            Reported::Short => lines::MALFORMED,
+            Reported::Short => line::MALFORMED,
         }
     }
 }

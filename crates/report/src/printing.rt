@@ -14,7 +14,7 @@ use book::PlaceAnswer;
 use book::Position;
 use book::TotalsAnswer;
 use file::LoadAnswer;
-use lines::put_number;
+use line::put_number;
 
 // The bytes of a B line, an H line and an X line.
 const TOTALS_BYTES: usize = 81;

@@ -4,7 +4,7 @@ use mathlib.Core.Path.{_≡_, sym, ap, subst, _∙_}
 use Rattle.book_model.specs.declared.Book.{Book}
 use Rattle.book_model.specs.Book.{emptyBook}
 use Rattle.book_model.specs.Reached.{Reached, empty}
-use Rattle.file.specs.Load.{loadStated, loadOf}
+use Rattle.file_model.specs.Load.{loadStated, loadOf}
 use Rattle.capi.proofs.Told.{number-told, count-told, line-told, start-told, end-told}
 use Rattle.capi.proofs.taborumbra_check.Statement.{statement}
 use Rattle.capi.proofs.taborumbra_check.Tie as tie

@@ -2,8 +2,8 @@
 use borrow.Author.Needs.{needs}
 use mathlib.Core.Path.{_≡_, ap, _∙_}
 use Prim.Native.Nat.{ℕ}
-use Rattle.lines.specs.declared.Fields.{Fields}
-use Rattle.lines.specs.Line.{lineOf}
+use Rattle.line.specs.declared.Fields.{Fields}
+use Rattle.line.specs.Line.{lineOf}
 use Rattle.capi.proofs.taborumbra_read_line.Statement.{statement}
 use Rattle.capi.proofs.taborumbra_read_line.Tie as tie
 

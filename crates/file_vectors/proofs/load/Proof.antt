@@ -1,7 +1,7 @@
 -- The book that the load gave back is reached.
 use borrow.Author.Needs.{needs}
 use Rattle.book_model.specs.Reached.{Reached}
-use Rattle.file.proofs.LoadCallers.{load-reached}
+use Rattle.file_model.proofs.Callers.{load-reached}
 use Rattle.file_vectors.proofs.load.Statement.{statement}
 use Rattle.file_vectors.proofs.load.Tie as tie
 use Rattle.file_vectors.proofs.load.Reads as reads

@@ -4,7 +4,7 @@ use mathlib.Core.Path.{sym}
 use Prim.Native.Nat.{_≤_}
 use lib.ListN.{length}
 use lib.Seq.{length-take-le}
-use Rattle.report.proofs.ReportCallers.{printed-within}
+use Rattle.report.proofs.Callers.{printed-within}
 use Rattle.report_vectors.proofs.put_report.Statement.{statement}
 use Rattle.report_vectors.proofs.put_report.Tie as tie
 use Rattle.report_vectors.proofs.put_report.Reads as reads

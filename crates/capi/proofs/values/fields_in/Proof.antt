@@ -1,8 +1,8 @@
 -- A malformed line has no fields.
 use borrow.Author.Needs.{needs}
 use mathlib.Core.Path.{sym, ap}
-use Rattle.lines.specs.declared.ReadAnswer.{ReadAnswer}
-use Rattle.lines.specs.Line.{readStated}
+use Rattle.line.specs.declared.ReadAnswer.{ReadAnswer}
+use Rattle.line.specs.Line.{readStated}
 use Rattle.capi.proofs.values.fields_in.Statement.{statement}
 use Rattle.capi.proofs.values.fields_in.Tie as tie
 

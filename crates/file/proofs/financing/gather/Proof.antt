@@ -6,8 +6,8 @@ use borrow.Author.Needs.{needs}
 use borrow.Author.Tests.{eqb-true, eqb-false}
 use lib.ListN.{length}
 use lib.Seq.{length-take-le}
-use Rattle.lines.specs.Line.{readStated}
-use Rattle.lines.proofs.LinePositions.{end-past}
+use Rattle.line.specs.Line.{readStated}
+use Rattle.lines.proofs.Callers.{end-past}
 use Rattle.file.proofs.LoadSteps.{load-opens}
 use Rattle.file.proofs.FinancingLines.{Gathering, financing-malformed, financing-full, gathering-goes-on, gathering-stops}
 use Rattle.file.proofs.financing.gather.Statement.{statement}

@@ -8,14 +8,14 @@ use Prim.Native.Nat.{ℕ, _-_, _≤_, _<_}
 use lib.ListN.{length, drop}
 use Rattle.book_model.specs.declared.Book.{Book}
 use Rattle.book_model.specs.Reached.{Reached}
-use Rattle.lines.specs.declared.ReadAnswer.{ReadAnswer}
-use Rattle.lines.specs.Line.{readStated, lineOf}
+use Rattle.line.specs.declared.ReadAnswer.{ReadAnswer}
+use Rattle.line.specs.Line.{readStated, lineOf}
 use Rattle.lines.specs.Lines.{lines, lineAt}
-use Rattle.lines.proofs.LinePositions.{end-past, end-within}
-use Rattle.file.specs.declared.LoadRefusal.the-variants as refusal
+use Rattle.lines.proofs.Callers.{end-past, end-within}
+use Rattle.file_model.specs.declared.LoadRefusal.the-variants as refusal
+use Rattle.file_model.specs.Load.{Outcome, None, refused, loadFrom, loadOf}
 use Rattle.file.specs.declared.turning.Next.{Next}
 use Rattle.file.specs.declared.turning.Turn.{Turn}
-use Rattle.file.specs.Load.{Outcome, None, refused, loadFrom, loadOf}
 use Rattle.file.specs.Computation.{wentOn, Turns}
 use Rattle.file.proofs.LoadSteps.{load-end}
 use Rattle.file.proofs.Turnings.{order-advance, order-rate, order-transfer, order-settle, order-no-call, turn-malformed, turn-call, turn-other}

@@ -1,9 +1,9 @@
 -- The bounds of the line that the answer names.
 use borrow.Author.Needs.{needs}
-use Rattle.file.specs.Load.{partStart, partEnd}
+use Rattle.file_model.specs.Load.{partStart, partEnd}
 use Rattle.file.proofs.loading.part_bounds.Statement.{statement}
 use Rattle.file.proofs.loading.part_bounds.Tie as tie
-use Rattle.file.proofs.LoadAnswer.line.Reads as line-reads
+use Rattle.file_model.proofs.LoadAnswer.line.Reads as line-reads
 use Rattle.lines.proofs.line_bounds.Reads as line-bounds-reads
 
 line-requires : tie.Need-line-requires

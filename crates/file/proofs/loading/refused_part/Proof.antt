@@ -1,9 +1,9 @@
 -- The line that the answer names.
 use borrow.Author.Needs.{needs}
-use Rattle.file.specs.Load.{partStart, partEnd}
+use Rattle.file_model.specs.Load.{partStart, partEnd}
 use Rattle.file.proofs.loading.refused_part.Statement.{statement}
 use Rattle.file.proofs.loading.refused_part.Tie as tie
-use Rattle.file.proofs.LoadAnswer.line.Reads as line-reads
+use Rattle.file_model.proofs.LoadAnswer.line.Reads as line-reads
 use Rattle.lines.proofs.line_part.Reads as line-part-reads
 
 line-requires : tie.Need-line-requires

@@ -25,8 +25,9 @@ add-result c = omega arith
 
 returns : tie.Need-returns Inv-loop μ-loop
 returns c =
-    let l = c .before .before .before .loop in
-    sym (l .inv ∙ end-feed (c .before .before .before .before .args .file .now) (l .i) (omega arith) (c .if1 .taken))
+    let turn = c .before .before in
+    let l = turn .before .loop in
+    sym (l .inv ∙ end-feed (turn .before .before .args .file .now) (l .i) (omega arith) (c .if1 .taken))
 
 add-i : tie.Need-add-i Inv-loop μ-loop
 add-i c = omega arith
@@ -36,8 +37,9 @@ loop-less c = omega arith
 
 loop-again : tie.Need-loop-again Inv-loop μ-loop
 loop-again c =
-    let l = c .before .before .before .loop in
-    l .inv ∙ end-other (c .before .before .before .before .args .file .now) (l .i) (omega arith) (c .if1 .left)
+    let turn = c .before .before in
+    let l = turn .before .loop in
+    l .inv ∙ end-other (turn .before .before .args .file .now) (l .i) (omega arith) (c .if1 .left)
 
 returns-2 : tie.Need-returns-2 Inv-loop μ-loop
 returns-2 c =

@@ -14,6 +14,13 @@ Inv-loop file number at₀ before₀ at before = (before ≤ number - 1) × (at 
 abbrev μ-loop : tie.MeasureT-loop
 μ-loop file number at₀ before₀ at before = before
 
+-- The way back to the first test, from a turn of the loop and from its end
+abbrev from-turn : tie.In-loop Inv-loop μ-loop → tie.After-shared-slice-known Inv-loop μ-loop
+from-turn c = c .before .before .before
+
+abbrev from-end : tie.After-loop Inv-loop μ-loop → tie.After-shared-slice-known Inv-loop μ-loop
+from-end c = c .before .before .before
+
 returns : tie.Need-returns Inv-loop μ-loop
 unfolding lineStart
 returns c = rw (c .if1 .taken)
@@ -31,7 +38,7 @@ loop-holds c =
 returns-2 : tie.Need-returns-2 Inv-loop μ-loop
 returns-2 c =
     let l = c .before .before .loop in
-    let a = c .before .before .before .before .before .args in
+    let a = from-turn (c .before) .before .args in
     let stays = start-stays (a .file .now) (a .number - 1 - l .before) (a .number - 1) (omega arith) (sym (l .inv .1) ∙ c .if2 .taken) in
     c .if2 .taken ∙ sym (start-numbered (a .file .now) (a .number) (omega arith) ∙ stays)
 
@@ -48,14 +55,14 @@ loop-again : tie.Need-loop-again Inv-loop μ-loop
 unfolding startOf
 loop-again c =
     let l = c .before .before .before .loop in
-    let n = c .before .before .before .before .before .before .args .number in
+    let n = from-turn (c .before .before) .before .args .number in
     let e : n - 1 - (l .before - 1) ≡ suc (n - 1 - l .before) = omega arith in
     (omega arith, rw (e, ← l .inv .1) (c .line-end .ensures))
 
 returns-3 : tie.Need-returns-3 Inv-loop μ-loop
 returns-3 c =
     let l = c .before .loop in
-    let a = c .before .before .before .before .args in
+    let a = from-end c .before .args in
     let e : a .number - 1 - l .before ≡ a .number - 1 = omega arith in
     rw e at (l .inv .1) ∙ sym (start-numbered (a .file .now) (a .number) (omega arith))
 

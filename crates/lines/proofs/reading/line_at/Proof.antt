@@ -4,7 +4,7 @@ use native.Mathlib.Omega.{arith}
 use mathlib.Core.Path.{_≡_, sym, ap, _∙_}
 use Prim.Native.Nat.{ℕ, _+_, _-_}
 use lib.ListN.{take, drop}
-use Rattle.lines.specs.Line.{lineOf}
+use Rattle.line.specs.Line.{lineOf}
 use Rattle.lines.proofs.LineColumns.{line-in-columns, few-refused}
 use Rattle.lines.proofs.reading.line_at.Statement.{statement}
 use Rattle.lines.proofs.reading.line_at.Tie as tie
@@ -39,7 +39,8 @@ read-line-requires c κs = search needs
 
 returns-3 : tie.Need-returns-3
 returns-3 c =
-    let a = c .before .before .before .before .before .args in
+    let tested = c .before .before in
+    let a = tested .before .before .before .args in
     let n : a .at + 43 - a .at ≡ 43 = omega arith in
     c .read-line .ensures
     ∙ ap (λ (k : ℕ). lineOf (take k (drop (a .at) (a .file .now)))) n

@@ -37,13 +37,13 @@ use denote.Triple.Spec.{Meets, tripleOf}
 use denote.Triple.Table.{entered, cited}
 use denote.Triple.Walked.{says, Stays, stay-none, stay-none-slice, walkOf, goes-none, goes-none-slice, Walks, ends-at, walked, walk-meets}
 use denote.Exit.{yes}
-use Rattle.lines.specs.Line.{readStated, lineOf}
+use Rattle.line.specs.Line.{readStated, lineOf}
 use Rattle.lines.specs.Lines.{lineAt, endOf}
 use Rattle.lines.specs.declared.Reader.{Reader}
 use Rattle.lines.specs.declared.Moved.{Moved}
 use Rattle.lines.specs.declared.Step.{Step}
-use Rattle.lines.proofs.ReadAnswer as answer
-use Rattle.lines.proofs.ReadAnswer.Laws as answer-laws
+use Rattle.line.proofs.ReadAnswer as answer
+use Rattle.line.proofs.ReadAnswer.Laws as answer-laws
 use Rattle.lines.proofs.Reader as reader
 use Rattle.lines.proofs.Reader.Laws as reader-laws
 use Rattle.lines.proofs.Moved as moved

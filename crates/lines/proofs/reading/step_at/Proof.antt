@@ -2,7 +2,7 @@
 use borrow.Author.Needs.{needs}
 use native.Mathlib.Omega.{arith}
 use mathlib.Core.Path.{sym, ap, _∙_}
-use Rattle.lines.specs.Line.{readStated}
+use Rattle.line.specs.Line.{readStated}
 use Rattle.lines.proofs.LineColumns.{read-end}
 use Rattle.lines.proofs.reading.step_at.Statement.{statement}
 use Rattle.lines.proofs.reading.step_at.Tie as tie
@@ -16,8 +16,9 @@ enum-told c = search needs
 add-end : tie.Need-add-end
 add-end c =
     let read = c .enum-told .given in
-    let line = c .before .before .line-at in
-    let a = c .before .before .before .before .args in
+    let called = c .before .before in
+    let line = called .line-at in
+    let a = called .before .before .args in
     omega (arith, read-end (a .file .now) (a .at) (read .0 .0) (sym (line .ensures) ∙ ap readStated (read .1)) .1)
 
 enum-told-2 : tie.Need-enum-told-2
@@ -29,8 +30,9 @@ line-end-requires c κs = search needs
 returns : tie.Need-returns
 returns c =
     let read = c .enum-told .given in
-    let line = c .before .before .line-at in
-    let a = c .before .before .before .before .args in
+    let called = c .before .before in
+    let line = called .line-at in
+    let a = called .before .before .args in
     (line .ensures, sym (read-end (a .file .now) (a .at) (read .0 .0) (sym (line .ensures) ∙ ap readStated (read .1)) .0))
 
 returns-2 : tie.Need-returns-2

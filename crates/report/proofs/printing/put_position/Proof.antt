@@ -5,8 +5,8 @@ use mathlib.Core.Path.{_≡_, ap, _∙_}
 use mathlib.Core.List.{List}
 use Prim.Native.Nat.{ℕ, _+_}
 use lib.ListN.{length, set, length-set}
-use Rattle.lines.specs.Write.{numberPut}
-use Rattle.lines.proofs.NumberPut.{length-put}
+use Rattle.line.specs.Write.{numberPut}
+use Rattle.line.proofs.Callers.{length-put}
 use Rattle.report.proofs.LineBytes.{position-puts}
 use Rattle.report.proofs.printing.put_position.Statement.{statement}
 use Rattle.report.proofs.printing.put_position.Tie as tie

@@ -7,8 +7,8 @@ use lib.Seq.{sets}
 use Rattle.book_model.specs.declared.Book.{Book}
 use Rattle.book_model.specs.Book.{emptyBook}
 use Rattle.book_model.specs.Reached.{Reached, empty}
-use Rattle.file.specs.Load.{refusalNumber, loadStated, loadOf}
-use Rattle.file.proofs.LoadCallers.{load-reached}
+use Rattle.file_model.specs.Load.{refusalNumber, loadStated, loadOf}
+use Rattle.file_model.proofs.Callers.{load-reached}
 use Rattle.report.specs.Statement.{refusalLine}
 use Rattle.report.proofs.StatementLengths.{refusal-length, reached-fits}
 use Rattle.report.proofs.StatementPut.{accepted-printed, refused-printed, short-reported, statement-reported}
