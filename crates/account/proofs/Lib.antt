@@ -1,15 +1,15 @@
--- Facts about the definitions.
-pub mod ClosedForm
-pub mod Bounds
-pub mod Segments
-pub mod Timeline
-pub mod SettledDays
-pub mod AccountSteps
-pub mod NotOverpaid
-pub mod AccountBounds
-pub mod Replays
-pub mod RangeTests
-pub mod Walks
-pub mod Reckonings
-pub mod InRange
+-- Facts about the definitions. `Callers` is what other crates cite of them.
+mod ClosedForm
+mod Bounds
+mod Segments
+mod Timeline
+mod SettledDays
+mod AccountSteps
+mod NotOverpaid
+mod AccountBounds
+mod Replays
+mod RangeTests
+mod Walks
+mod Reckonings
+mod InRange
 pub mod Callers

@@ -1,9 +1,9 @@
 -- Facts about the definitions. `Callers` has what other crates cite; `Laws` and `Examples` are what the crate states.
-pub mod Ranks
-pub mod Laws
-pub mod Arrays
-pub mod Whole
-pub mod Threshold
-pub mod Answers
-pub mod Examples
+mod Ranks
+mod Laws
+mod Arrays
+mod Whole
+mod Threshold
+mod Answers
+mod Examples
 pub mod Callers

@@ -1,30 +1,30 @@
--- Facts about the definitions.
-pub mod Filled
-pub mod ChangedBook
-pub mod CallsReach
-pub mod Timeline
-pub mod DaysPassed
-pub mod Paid
-pub mod Founded
-pub mod Financing
-pub mod RatesInForce
-pub mod DaysHeld
-pub mod Accepted
-pub mod OpenKept
-pub mod AdvanceKept
-pub mod SettleKept
-pub mod Places
-pub mod Changes
-pub mod Assigned
-pub mod Transfers
-pub mod TransferKept
-pub mod Kept
-pub mod Steps
-pub mod Settlements
-pub mod Readings
-pub mod OpenCases
-pub mod RateOrders
-pub mod StandingKept
-pub mod StoredRates
-pub mod RateKept
+-- Facts about the definitions. `Callers` is what other crates cite of them.
+mod Filled
+mod ChangedBook
+mod CallsReach
+mod Timeline
+mod DaysPassed
+mod Paid
+mod Founded
+mod Financing
+mod RatesInForce
+mod DaysHeld
+mod Accepted
+mod OpenKept
+mod AdvanceKept
+mod SettleKept
+mod Places
+mod Changes
+mod Assigned
+mod Transfers
+mod TransferKept
+mod Kept
+mod Steps
+mod Settlements
+mod Readings
+mod OpenCases
+mod RateOrders
+mod StandingKept
+mod StoredRates
+mod RateKept
 pub mod Callers

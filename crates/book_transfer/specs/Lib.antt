@@ -1,2 +1,2 @@
--- What the parts of the computation give. Private contracts alone cite it.
-pub mod Computation
+-- Cited by private contracts alone; what Transfer is stands in `book_model`.
+pub mod Moving

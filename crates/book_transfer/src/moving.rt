@@ -3,7 +3,7 @@ ghost use mathlib.Core.Path.{_≡_};
 ghost use mathlib.Core.Bool.{true};
 ghost use Prim.Native.Nat.{_<_};
 ghost use Rattle.book_model.specs.Book.{held};
-ghost use Rattle.book_transfer.specs.Computation.{movingStated};
+ghost use Rattle.book_transfer.specs.Moving.{movingStated};
 ghost use Rattle.book_model.specs.Outcome.{refuse, noParts, transferStated};
 ghost use Rattle.book_model.specs.Positions.{place};
 ghost use Rattle.book_model.specs.Reached.{Reached};

@@ -1,10 +1,10 @@
 -- Facts about the definitions. `Callers` has what other crates cite; `Laws` and `Examples` are what the crate states.
-pub mod Lengths
-pub mod Parts
-pub mod Walk
-pub mod Order
-pub mod Counts
-pub mod Answers
-pub mod Laws
-pub mod Examples
+mod Lengths
+mod Parts
+mod Walk
+mod Order
+mod Counts
+mod Answers
+mod Laws
+mod Examples
 pub mod Callers

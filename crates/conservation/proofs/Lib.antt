@@ -1,21 +1,21 @@
 -- The tally against the book, call by call, and over lists.
-pub mod TallySums
-pub mod AccountTally
-pub mod SameTerms
-pub mod MoneyConserved
-pub mod Members
-pub mod ByHolder
-pub mod TallyDays
-pub mod Newcomers
-pub mod Agreement
-pub mod OpenAgrees
-pub mod AdvanceAgrees
-pub mod TransferAgrees
-pub mod SettleAgrees
-pub mod RateAgrees
-pub mod CallAgrees
-pub mod Conserved
-pub mod ReachedBooks
-pub mod SteadyDays
-pub mod Examples
+mod TallySums
+mod AccountTally
+mod SameTerms
+mod MoneyConserved
+mod Members
+mod ByHolder
+mod TallyDays
+mod Newcomers
+mod Agreement
+mod OpenAgrees
+mod AdvanceAgrees
+mod TransferAgrees
+mod SettleAgrees
+mod RateAgrees
+mod CallAgrees
+mod Conserved
+mod ReachedBooks
+mod SteadyDays
+mod Examples
 pub mod Callers

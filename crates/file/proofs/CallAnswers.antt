@@ -15,7 +15,7 @@ use Rattle.file_model.specs.declared.LoadRefusal.the-variants as refusal
 use Rattle.file_model.specs.Load.{refused, afterCall}
 use Rattle.file_model.proofs.Callers.{refusal-not-zero}
 use Rattle.file.specs.declared.turning.Next.the-variants.{On, Stop}
-use Rattle.file.specs.Computation.{Calls}
+use Rattle.file.specs.Turns.{Calls}
 
 -- a call's number and book
 pub record After : Type 0 where

@@ -19,7 +19,7 @@ use Rattle.file_model.specs.Order.{Finance, orderOf, orderIn}
 use Rattle.file_model.specs.Load.{Outcome, Waits, refused, openingWith, loadFrom}
 use Rattle.file_model.proofs.Callers.{order-read, order-malformed, letter-first}
 use Rattle.file.specs.declared.turning.Next.{Next}
-use Rattle.file.specs.Computation.{saturated, gathered, Gathers}
+use Rattle.file.specs.Turns.{saturated, gathered, Gathers}
 use Rattle.file.proofs.LoadSteps.{load-financing}
 use Rattle.file.proofs.Saturation.{alike-last, load-alike}
 

@@ -21,7 +21,7 @@ use Rattle.file_model.proofs.Callers.{refusal-not-zero}
 use Rattle.file.specs.declared.financing.Financing.{Financing}
 use Rattle.file.specs.declared.turning.Next.{Next}
 use Rattle.file.specs.declared.turning.Next.the-variants.{On, Stop}
-use Rattle.file.specs.Computation.{stopped, Gathers, gatheredBy}
+use Rattle.file.specs.Turns.{stopped, Gathers, gatheredBy}
 
 module _ (s : List ℕ) (before b : Book) (line : ℕ) (f : Fields) (at : ℕ) (g : Financing) (gathers : Gathers s at line g) where
   -- the load from the F lines on

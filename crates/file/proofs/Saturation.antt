@@ -15,7 +15,7 @@ use Rattle.general_laws.proofs.Choice.{by-test, by-order}
 use Rattle.book_model.proofs.Callers.{financed}
 use Rattle.file_model.specs.Order.{Order, Open, Finance, Later, End, Malformed, orderIn}
 use Rattle.file_model.specs.Load.{Outcome, Waiting, Waits, openingWith, afterCall, beginsWithF, afterOpen, afterFinancing, loadFrom}
-use Rattle.file.specs.Computation.{saturated}
+use Rattle.file.specs.Turns.{saturated}
 
 -- Shares
 

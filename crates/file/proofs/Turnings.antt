@@ -20,7 +20,7 @@ use Rattle.file_model.specs.Order.{Order, Open, Finance, Later, End, Malformed,
 use Rattle.file_model.specs.Load.{Outcome, Waiting, None, Waits, refused, openingWith, ended, afterLine, loadFrom}
 use Rattle.file_model.proofs.Callers.{order-read, order-malformed, letter-first}
 use Rattle.file.specs.declared.turning.Turn.{Turn}
-use Rattle.file.specs.Computation.{wentOn, Calls, NoCall, Continues, Turns}
+use Rattle.file.specs.Turns.{wentOn, Calls, NoCall, Continues, Turns}
 use Rattle.file.proofs.LoadSteps.{load-line, load-unplaced}
 
 -- What a line orders, by its letter

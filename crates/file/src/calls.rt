@@ -2,7 +2,7 @@
 // cases of the answer: wherever it is built, the book is copied.
 ghost use Rattle.book_model.specs.Call.{Advance, Rate, Transfer, Settle};
 ghost use Rattle.book_model.specs.Reached.{Reached};
-ghost use Rattle.file.specs.Computation.{Calls};
+ghost use Rattle.file.specs.Turns.{Calls};
 use crate::turning::Next;
 use crate::turning::Turn;
 use book::AdvanceAnswer;

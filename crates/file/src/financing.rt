@@ -2,7 +2,7 @@
 ghost use mathlib.Core.Path.{_≡_};
 ghost use Prim.Native.Nat.{_≤_};
 ghost use lib.ListN.{length};
-ghost use Rattle.file.specs.Computation.{saturated, Gathers};
+ghost use Rattle.file.specs.Turns.{saturated, Gathers};
 use crate::turning::Next;
 use book::Book;
 use file_model::LoadAnswer;

@@ -4,7 +4,7 @@ ghost use Rattle.book_model.specs.Reached.{Reached};
 ghost use Rattle.lines.specs.Lines.{partOf};
 ghost use Rattle.file_model.specs.Load.{loadStated, loadOf, partStart, partEnd};
 ghost use Rattle.file_model.specs.Load as load;
-ghost use Rattle.file.specs.Computation.{stopped};
+ghost use Rattle.file.specs.Turns.{stopped};
 use crate::calls::advance_line;
 use crate::calls::rate_line;
 use crate::calls::settle_line;

@@ -5,7 +5,7 @@ ghost use mathlib.Core.List.{[]};
 ghost use Rattle.book_model.specs.Reached.{Reached};
 ghost use Rattle.file_model.specs.Load.{Waits, openingWith};
 ghost use Rattle.file_model.specs.Order.{orderOf};
-ghost use Rattle.file.specs.Computation.{Ends, Turns, NoCall, Continues};
+ghost use Rattle.file.specs.Turns.{Ends, Turns, NoCall, Continues};
 use crate::financing::gather;
 use book::Book;
 use book::Cents;

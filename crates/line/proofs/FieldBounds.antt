@@ -11,7 +11,7 @@ use borrow.Author.Tests.{leb-true}
 use Rattle.line.specs.declared.field.Field.{Field}
 use Rattle.line.specs.declared.field.Field.the-variants.{Blank, Number, Bad}
 use Rattle.line.specs.Field.{isDigit, stepOf, fieldAt}
-use Rattle.line.specs.Computation.{Below}
+use Rattle.line.specs.FieldBelow.{Below}
 use Rattle.line.specs.Line.{numberOf}
 
 -- a digit keeps a bound

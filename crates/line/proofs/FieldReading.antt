@@ -13,7 +13,7 @@ use borrow.Author.Tests.{leb-true, eqb-true, ne-eqb}
 use Rattle.line.specs.declared.field.Field.{Field}
 use Rattle.line.specs.declared.field.Field.the-variants.{Blank, Number, Bad}
 use Rattle.line.specs.Field.{isDigit, stepOf, fieldAt}
-use Rattle.line.specs.Computation.{Below}
+use Rattle.line.specs.FieldBelow.{Below}
 use Rattle.line.proofs.FieldBounds.{power-positive, field-below-wider}
 use Rattle.line.proofs.FieldRoundTrip.{shown, step-digit}
 

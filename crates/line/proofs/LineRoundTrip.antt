@@ -13,7 +13,7 @@ use Rattle.line.specs.declared.field.Field.{Field}
 use Rattle.line.specs.declared.field.Field.the-variants.{Blank, Number, Bad}
 use Rattle.line.specs.declared.line.Uses.{Uses}
 use Rattle.line.specs.Field.{fieldAt}
-use Rattle.line.specs.Computation.{Below}
+use Rattle.line.specs.FieldBelow.{Below}
 use Rattle.line.specs.Line.{malformedNumber, noFields, usesOf, proper, numberOf, formed, fieldsFrom, assembledOf, columnsOf, lineOf}
 use Rattle.line.specs.Write.{fits, fitsAll, writable, fieldBytes, bytesUnder, lineBytes, writtenOf}
 use Rattle.line.specs.RoundTrip.{RoundTrip}

@@ -1,7 +1,7 @@
 // A line, 42 columns and a line feed, read as its fields.
 ghost use mathlib.Core.Path.{_≡_};
 ghost use Prim.Native.Nat.{_^_};
-ghost use Rattle.line.specs.Computation.{Below};
+ghost use Rattle.line.specs.FieldBelow.{Below};
 ghost use Rattle.line.specs.Line.{uses, usesOf, proper, numberOf, formed, readStated, assembledOf, lineOf};
 use crate::Fields;
 use crate::LINE_BYTES;

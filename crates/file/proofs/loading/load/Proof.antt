@@ -16,7 +16,7 @@ use Rattle.file_model.specs.declared.LoadRefusal.the-variants as refusal
 use Rattle.file_model.specs.Load.{Outcome, None, refused, loadFrom, loadOf}
 use Rattle.file.specs.declared.turning.Next.{Next}
 use Rattle.file.specs.declared.turning.Turn.{Turn}
-use Rattle.file.specs.Computation.{wentOn, Turns}
+use Rattle.file.specs.Turns.{wentOn, Turns}
 use Rattle.file.proofs.LoadSteps.{load-end}
 use Rattle.file.proofs.Turnings.{order-advance, order-rate, order-transfer, order-settle, order-no-call, turn-malformed, turn-call, turn-other}
 use Rattle.file.proofs.loading.load.Statement.{statement}
