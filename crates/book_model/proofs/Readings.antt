@@ -1,7 +1,7 @@
 -- The cases of the readers.
 use Prim.Native.Nat.{ℕ, _+_, _≤_, _<_}
 use native.Mathlib.Omega.{arith}
-use mathlib.Core.Path.{_≡_, refl, ap}
+use mathlib.Core.Path.{_≡_, refl, ap, sym, _∙_}
 use mathlib.Core.Bool.{true, false, not}
 use borrow.Author.Tests.{le-leb, lt-leb}
 use lib.ListN.{getD}
@@ -34,11 +34,15 @@ module _ (b : Book) (h : ℕ) where
       unfolding positionOf
       position-unknown away = rw (is-open, right, away)
 
+      position-there : present h (held b) ≡ true → answered (getD (held b) (place h (held b)) noPosition) ≡ positionOf b h
+      unfolding positionOf
+      position-there there = rw (is-open, right, there)
+
       pub position-known : (k : ℕ) → k ≡ place h (held b) → k < b .count → present h (held b) ≡ true
           → answered (getD (b .positions) k noPosition) ≡ positionOf b h
-      unfolding positionOf
       position-known k here below there =
-          rw (is-open, right, there, ← here, getD-take (b .count) (b .positions) k noPosition below)
+          ap answered (sym (getD-take (b .count) (b .positions) k noPosition below) ∙ ap (λ (j : ℕ). getD (held b) j noPosition) here)
+          ∙ position-there there
 
 -- A position by its place
 
