@@ -1,11 +1,11 @@
--- Figures, orders and settlements within which the arithmetic of an account fits, as facts. Private contracts and the book's invariant cite
--- them; nobody has to believe them.
+-- Figures, orders and settlements within which an account's arithmetic fits. Private contracts alone cite this: nobody has to believe it.
 use Prim.Native.Nat.{ℕ, _+_, _*_, _≤_, _<_}
 use mathlib.Core.Path.{_≡_}
 use mathlib.Core.List.{List, [], _∷_}
 use Rattle.account.specs.declared.Account.{Account}
 use Rattle.account.specs.declared.RateOrder.{RateOrder}
 use Rattle.account.specs.declared.Settlement.{Settlement}
+use Rattle.account.specs.Ranges.{greatestDaily}
 
 -- figures that the arithmetic of one step fits
 pub record Fits (a : Account) : Type 0 where
@@ -24,7 +24,7 @@ pub record Bounded (n : ℕ) (a : Account) : Type 0 where
 -- no daily rate is over that of 4 percent
 abbrev pub Moderate : List RateOrder → Type 0
 Moderate [] = Unit {0}
-Moderate (o ∷ os) = (o .daily ≤ 1074597) × Moderate os
+Moderate (o ∷ os) = (o .daily ≤ greatestDaily) × Moderate os
 
 -- orders that follow one another by first day, all after one day
 abbrev pub Rising : ℕ → List RateOrder → Type 0

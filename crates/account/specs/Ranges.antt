@@ -15,13 +15,17 @@ isAccount a =
     && (ltb (a .fraction) 10000000000
     && (leb (a .«principal_paid» .0) 1000000000000 && leb (a .«interest_paid» .0) 1000000000000)))
 
+-- the daily rate of 4 percent
+abbrev pub greatestDaily : ℕ
+greatestDaily = 1074597
+
 -- an order that holds from day 0, its daily rate at most that of 4 percent
 abbrev pub isFirst : RateOrder → Bool
-isFirst o = eqb (o .first .0) 0 && leb (o .daily) 1074597
+isFirst o = eqb (o .first .0) 0 && leb (o .daily) greatestDaily
 
 -- an order that begins after a day, its daily rate at most that of 4 percent
 abbrev pub isNext : ℕ → RateOrder → Bool
-isNext day o = ltb day (o .first .0) && leb (o .daily) 1074597
+isNext day o = ltb day (o .first .0) && leb (o .daily) greatestDaily
 
 -- each order begins after a day and after the order before it
 unfoldable pub isRising : ℕ → List RateOrder → Bool

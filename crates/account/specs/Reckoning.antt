@@ -10,7 +10,7 @@ use Rattle.account.specs.declared.Reckoned.{Reckoned}
 use Rattle.account.specs.declared.Reckoned.the-variants.{Standing, Overpaid, OutOfRange}
 use Rattle.account.specs.declared.Settlement.{Settlement}
 use Rattle.account.specs.Accrual.{accruedDays, paidOff, worth}
-use Rattle.account.specs.Ranges.{isAccount, isSchedule, isTimely}
+use Rattle.account.specs.Ranges.{greatestDaily, isAccount, isSchedule, isTimely}
 use Rattle.account.specs.Schedule.{storedOn}
 use Rattle.account.specs.Standing.{accountAt, overpaid}
 
@@ -18,7 +18,7 @@ use Rattle.account.specs.Standing.{accountAt, overpaid}
 unfoldable pub accrued : Account → ℕ → ℕ → Reckoned
 accrued a d n =
     cond (not (isAccount a)) OutOfRange
-    (cond (ltb 1074597 d) OutOfRange
+    (cond (ltb greatestDaily d) OutOfRange
     (cond (ltb 6000 n) OutOfRange
     (Standing (accruedDays n d a))))
 

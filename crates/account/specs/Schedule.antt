@@ -12,7 +12,7 @@ unfoldable pub inForce : (RateOrder → ℕ) → ℕ → List RateOrder → ℕ 
 inForce of before [] day = before
 inForce of before (o ∷ os) day = inForce of (cond (leb (o .first .0) day) (of o) before) os day
 
--- the daily number that stands beside it; the 0 is never met where an order from day 0 comes first
+-- the stored daily rate of that order; the 0 is never met where an order from day 0 comes first
 abbrev pub storedOn : List RateOrder → ℕ → ℕ
 storedOn orders day = inForce (λ (o : RateOrder). o .daily) 0 orders day
 

@@ -1,4 +1,4 @@
--- The walk over orders and settlements: what it gives, and what holds on its way. Private contracts alone cite it.
+-- The walk over orders and settlements. Private contracts alone cite this: nobody has to believe it.
 use Prim.Native.Nat.{ℕ, zero, suc, _+_, _-_, _≤_, _<_}
 use mathlib.Core.Path.{_≡_}
 use mathlib.Core.Bool.{true, false}
@@ -10,7 +10,7 @@ use Rattle.account.specs.declared.accrual.Elapsed.{Elapsed}
 use Rattle.account.specs.Accrual.{accruedDay}
 use Rattle.account.specs.Invariant.{Bounded}
 use Rattle.account.specs.Opening.{noOrder}
-use Rattle.account.specs.Ranges.{isNext, isRising, isSchedule}
+use Rattle.account.specs.Ranges.{greatestDaily, isNext, isRising, isSchedule}
 use Rattle.account.specs.Schedule.{storedOn}
 
 -- so many days from a day on, each at its own daily rate, without a settlement
@@ -23,7 +23,7 @@ elapsed daily from (suc k) a = accruedDay (daily (from + k)) (elapsed daily from
 pub record Come (n : ℕ) (orders : List RateOrder) (at day : ℕ) : Type 0 where
   pub within : at < n
   pub begun : getD orders at noOrder .first .0 ≤ day
-  pub low : getD orders at noOrder .daily ≤ 1074597
+  pub low : getD orders at noOrder .daily ≤ greatestDaily
   pub next : at + 1 < n → isNext (getD orders at noOrder .first .0) (getD orders (at + 1) noOrder) ≡ true
       → day ≤ getD orders (at + 1) noOrder .first .0
   pub left : isSchedule (take n orders) ≡ isRising (getD orders at noOrder .first .0) (drop (at + 1) (take n orders))

@@ -13,9 +13,6 @@ use crate::Reckoned;
 use crate::ranges::is_account;
 use crate::ranges::is_next;
 
-// Units of interest in a cent.
-const CENT: u64 = 10000000000;
-
 // So many days at one daily rate, at once: outstanding × d is q × 10^10 + r, so due grows by days × q, and fraction + days × r carries.
 pub fn accrue_days(account: Account, daily: u64, days: Day) -> Account
     requires { ⌜ Fits account ⌝ }
@@ -24,12 +21,12 @@ pub fn accrue_days(account: Account, daily: u64, days: Day) -> Account
 {
     let one = account.outstanding.0 * daily;
     let n = days.0 as u64;
-    let whole = n * (one / CENT);
-    let rest = account.fraction + n * (one % CENT);
-    let due = account.due.0 + whole + rest / CENT;
+    let whole = n * (one / Account::CENT);
+    let rest = account.fraction + n * (one % Account::CENT);
+    let due = account.due.0 + whole + rest / Account::CENT;
     let mut next = account;
     next.due.0 = due;
-    next.fraction = rest % CENT;
+    next.fraction = rest % Account::CENT;
     next
 }
 

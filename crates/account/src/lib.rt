@@ -6,6 +6,7 @@ mod ranges;
 mod replaying;
 
 pub use crate::accrual::accrue;
+pub use crate::paying::interest_of;
 pub use crate::paying::pay;
 pub use crate::replaying::replay;
 
@@ -41,6 +42,9 @@ impl Account {
     pub const SETTLEMENTS: usize = 240;
 
     pub const RATES: usize = 16;
+
+    // Units of interest in a cent.
+    pub const CENT: u64 = 10000000000;
 
     // The most cents of each figure, the greatest daily rate, and the last day.
     pub const CENTS: u64 = 1000000000000;

@@ -9,10 +9,11 @@ use crate::Cents;
 use crate::Reckoned;
 use crate::ranges::is_account;
 
-fn lesser(a: Cents, b: Cents) -> Cents
-    ensures { λ r. ⌜ r .0 ≡ min (a .0) (b .0) ⌝ }
+// What a settlement takes as interest, of so much that is due.
+pub fn interest_of(cents: Cents, due: Cents) -> Cents
+    ensures { λ r. ⌜ r .0 ≡ min (cents .0) (due .0) ⌝ }
 {
-    if a.0 < b.0 { a } else { b }
+    if cents.0 < due.0 { cents } else { due }
 }
 
 // A settlement that is not over due plus outstanding.
@@ -22,7 +23,7 @@ pub fn pay_off(account: Account, cents: Cents) -> Account
     ensures { λ r. ⌜ r ≡ paidOff (cents .0) account ⌝ }
 {
     let due = account.due;
-    let interest = lesser(cents, due);
+    let interest = interest_of(cents, due);
     let principal = cents.0 - interest.0;
     let left = account.outstanding.0 - principal;
     let unpaid = due.0 - interest.0;

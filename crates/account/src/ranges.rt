@@ -7,9 +7,6 @@ ghost use Rattle.account.specs.Ranges.{isAccount, isFirst, isNext, isRis
 use crate::Account;
 use crate::RateOrder;
 
-// Units of interest in a cent.
-const CENT: u64 = 10000000000;
-
 pub fn is_account(account: Account) -> bool
     ensures { λ r. ⌜ r ≡ isAccount account ⌝ }
 {
@@ -19,7 +16,7 @@ pub fn is_account(account: Account) -> bool
     if Account::CENTS < account.due.0 {
         return false;
     }
-    if CENT <= account.fraction {
+    if Account::CENT <= account.fraction {
         return false;
     }
     if Account::CENTS < account.principal_paid.0 {

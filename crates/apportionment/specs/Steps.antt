@@ -1,4 +1,4 @@
--- What the steps of the computation give.
+-- What the steps of the split give. Private contracts alone cite this: nobody has to believe it.
 use Prim.Native.Nat.{ℕ, _+_, _≤_, _<_}
 use mathlib.Core.Path.{_≡_}
 use mathlib.Core.Bool.{cond, _&&_}

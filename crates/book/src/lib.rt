@@ -3,6 +3,8 @@
 pub use account::Account;
 pub use account::Cents;
 pub use account::Day;
+pub use account::RateOrder;
+pub use account::Settlement;
 pub use book_advance::advance;
 pub use book_model::AdvanceAnswer;
 pub use book_model::Advanced;

@@ -1,4 +1,4 @@
--- What the calls work out at once: a position after many days, and a book with another array of positions. Private contracts alone cite it.
+-- What the calls work out at once: a position after many days, and a book with another array of positions. Private contracts alone cite this.
 use Prim.Native.Nat.{ℕ, _+_, _*_}
 use mathlib.Core.List.{List}
 use Rattle.book_model.specs.declared.Book.{Book}

@@ -1,5 +1,4 @@
--- The invariant: what holds of every reached book, the limits of its lists and sizes that make the arithmetic fit. Private contracts alone cite
--- it; nobody has to believe it.
+-- The invariant: what holds of every reached book. Private contracts alone cite this: nobody has to believe it.
 use Prim.Native.Nat.{ℕ, _+_, _-_, _*_, _≤_, _<_}
 use mathlib.Core.Path.{_≡_}
 use mathlib.Core.Bool.{true, false}

@@ -1,4 +1,4 @@
--- The definitions that the contracts cite. `Calls` is cited by the theorem over lists, `Closed` and `Invariant` by private contracts alone.
+-- The definitions that the contracts cite. `Calls` is cited by the theorem over lists and by the load, `Closed` and `Invariant` by private contracts alone.
 pub mod Book
 pub mod Outcome
 pub mod Schedule

@@ -4,7 +4,6 @@ use mathlib.Core.Bool.{Bool, cond, not, _&&_}
 use mathlib.Core.List.{List, [], _∷_, _++_, map}
 use lib.Dec.{leb, ltb, eqb}
 use lib.ListN.{length}
-use Rattle.general_laws.specs.Sums.{total}
 use Rattle.book_model.specs.declared.Position.{Position}
 use Rattle.book_model.specs.declared.positions.Found.{Found}
 use Rattle.book_model.specs.declared.positions.Found.the-variants.{At, Nothing}

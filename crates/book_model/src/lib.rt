@@ -169,7 +169,7 @@ pub enum TotalsAnswer {
 
 impl Book {
     // The most positions, settlements and stored rates, and the most days from one settlement to the next.
-    pub const POSITIONS: usize = 64;
+    pub const POSITIONS: usize = apportionment::POSITIONS;
 
     pub const SETTLEMENTS: usize = Account::SETTLEMENTS;
 

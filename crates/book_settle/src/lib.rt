@@ -4,7 +4,7 @@ ghost use Rattle.general_laws.specs.Sums.{total};
 ghost use Rattle.account.specs.Accrual.{paidOff, worth};
 ghost use Rattle.account.specs.Invariant.{Fits};
 ghost use mathlib.Core.List.{_++_};
-ghost use Prim.Native.Nat.{ℕ, _≤_, _<_, min};
+ghost use Prim.Native.Nat.{ℕ, _≤_, _<_};
 ghost use lib.ListN.{length, take, drop, getD};
 ghost use Rattle.apportionment.specs.Apportionment.{part};
 ghost use Rattle.book_model.specs.Outcome.{noPosition, settleCase, settleStated};
@@ -24,7 +24,7 @@ use book_model::Settlement;
 use book_model::last_settled;
 
 // The most cents of one settlement.
-const GREATEST_PAYMENT: u64 = 100000000000;
+const GREATEST_PAYMENT: u64 = apportionment::AMOUNT;
 
 // What a reached book asks of its account is never out of range.
 fn pay(account: Account, cents: Cents) -> Account
@@ -107,12 +107,6 @@ fn pay_out(
     pay_positions(positions, count, portions)
 }
 
-fn lesser(a: Cents, b: Cents) -> Cents
-    ensures { λ r. ⌜ r .0 ≡ min (a .0) (b .0) ⌝ }
-{
-    if a.0 < b.0 { a } else { b }
-}
-
 // What Settle answers.
 fn taking(book: Book, cents: Cents) -> SettleAnswer
     requires { ⌜ Sound book ⌝ }
@@ -136,7 +130,7 @@ fn taking(book: Book, cents: Cents) -> SettleAnswer
         return SettleAnswer::Refused(Refusal::Overpaid);
     }
     let due = book.account.due;
-    let interest = lesser(cents, due);
+    let interest = account::interest_of(cents, due);
     let principal = cents.0 - interest.0;
     SettleAnswer::Taken {
         interest: interest,

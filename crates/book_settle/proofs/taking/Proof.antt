@@ -38,8 +38,8 @@ by-day c = by-last (c .before .before)
 abbrev by-owed : tie.After-struct-known6 → tie.Else3
 by-owed c = by-day (c .before .before .before)
 
-abbrev by-lesser : tie.After-lesser → tie.Else5
-by-lesser c = c .before .before
+abbrev by-interest : tie.After-interest-of → tie.Else5
+by-interest c = c .before .before
 
 -- past the first test the book is open
 is-open : (c : tie.Else1) → c .before .args .book .opened ≡ true
@@ -75,20 +75,20 @@ returns-5 c =
     let within = by-free (by-owed (c .before)) .if2 .left in
     ap answer-of (overpaid _ _ (is-open o) (omega arith) (omega arith) (omega arith) (omega arith))
 
-lesser-requires : tie.Need-lesser-requires
-lesser-requires c κs = search needs
+interest-of-requires : tie.Need-interest-of-requires
+interest-of-requires c κs = search needs
 
 sub-principal : tie.Need-sub-principal
 sub-principal c = search needs
 
 returns-6 : tie.Need-returns-6
 returns-6 c =
-    let k = by-lesser (c .before .before) in
+    let k = by-interest (c .before .before) in
     let o = by-within (by-free (by-owed (k .before))) in
     let within = by-free (by-owed (k .before)) .if2 .left in
     let free = by-owed (k .before) .if3 .left in
     let a = o .before .args in
-    taken (a .book) (a .cents) _ (c .before .before .lesser .ensures)
+    taken (a .book) (a .cents) _ (c .before .before .interest-of .ensures)
     ∙ ap answer-of (accepted (a .book) (a .cents) (is-open o) (omega arith) (omega arith) (omega arith) (omega arith))
 
 pub taking-spec : {M : Type 1} → statement M
@@ -102,6 +102,6 @@ taking-spec =
     returns-4
     add-if5
     returns-5
-    lesser-requires
+    interest-of-requires
     sub-principal
     returns-6)

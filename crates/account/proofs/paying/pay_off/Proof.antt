@@ -5,17 +5,17 @@ use Rattle.account.proofs.paying.pay_off.Statement.{statement}
 use Rattle.account.proofs.paying.pay_off.Tie as tie
 
 -- The way back to the interest taken, from each place by the one before it
-abbrev by-principal : tie.After-struct-known2 → tie.After-lesser
+abbrev by-principal : tie.After-struct-known2 → tie.After-interest-of
 by-principal c = c .before .before
 
-abbrev by-unpaid : tie.After-struct-known5 → tie.After-lesser
+abbrev by-unpaid : tie.After-struct-known5 → tie.After-interest-of
 by-unpaid c = by-principal (c .before .before .before)
 
-abbrev by-paid : tie.After-struct-known8 → tie.After-lesser
+abbrev by-paid : tie.After-struct-known8 → tie.After-interest-of
 by-paid c = by-unpaid (c .before .before .before)
 
-lesser-requires : tie.Need-lesser-requires
-lesser-requires c κs = search needs
+interest-of-requires : tie.Need-interest-of-requires
+interest-of-requires c κs = search needs
 
 sub-principal : tie.Need-sub-principal
 sub-principal c = search needs
@@ -34,13 +34,13 @@ add-interest-paid c = search needs
 
 returns : tie.Need-returns
 unfolding paidOff
-returns c = rw (by-paid c .lesser .ensures)
+returns c = rw (by-paid c .interest-of .ensures)
 
 pub pay-off-spec : {M : Type 1} → statement M
 pay-off-spec =
     tie.close
     (tie.spec
-    lesser-requires
+    interest-of-requires
     sub-principal
     sub-left
     sub-unpaid
