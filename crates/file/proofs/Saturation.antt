@@ -1,8 +1,8 @@
 -- A share that doesn't fit 32 bits: as the greatest that does, it leads to the same load.
 use Prim.Native.Nat.{ℕ, _+_, _≤_}
 use native.Mathlib.Omega.{arith}
-use mathlib.Core.Path.{_≡_, refl, sym, ap, _∙_}
-use mathlib.Core.Bool.{Bool, cond}
+use mathlib.Core.Path.{_≡_, refl, sym, ap, ap₂, _∙_}
+use mathlib.Core.Bool.{cond}
 use mathlib.Core.List.{List, [], _∷_, _++_, map, map-append}
 use lib.ListN.{length}
 use borrow.Author.Tests.{le-ltb, lt-ltb}
@@ -60,9 +60,6 @@ alike-shares (n ∷ ns) (m ∷ ms) h e =
 
 -- The opening, and the load behind it
 
-either-way : {A : Type 0} (t : Bool) {x x′ y y′ : A} → x ≡ x′ → y ≡ y′ → cond t x y ≡ cond t x′ y′
-either-way t e f = rw (e, f)
-
 abbrev withShares : Book → (first term annual cents : ℕ) → (hs ss : List ℕ) → Result (Unit {0})
 withShares b first term annual cents hs ss = openedWith b (openingWith first term annual cents hs ss)
 
@@ -111,7 +108,7 @@ module _ (b : Book) (first term annual cents : ℕ) where
         ≡ loadFrom before b (Waits line (openingWith first term annual cents hs ss′)) n (l ∷ ls)
     unfolding loadFrom
     line-alike hs ss ss′ alike n l ls same =
-        either-way (beginsWithF l) (after-financing-alike hs ss ss′ (n + 1) (orderIn l) _ same) (after-open-alike hs ss ss′ alike _)
+        ap₂ (cond {A = Outcome} (beginsWithF l)) (after-financing-alike hs ss ss′ (n + 1) (orderIn l) _ same) (after-open-alike hs ss ss′ alike _)
 
     pub load-alike : (hs ss ss′ : List ℕ) → Alike ss ss′ → (n : ℕ) (ls : List (List ℕ))
         → loadFrom before b (Waits line (openingWith first term annual cents hs ss)) n ls

@@ -1,5 +1,6 @@
 -- Lines whose calls are accepted in turn, and an E line with their count, are accepted; the first call that is refused decides.
 use Prim.Native.Nat.{ℕ, suc, _+_, _≤_, _<_}
+use native.Mathlib.Nat.{suc-ne-zero}
 use native.Mathlib.Omega.{arith}
 use mathlib.Core.Path.{_≡_, refl, sym, ap, subst, _∙_}
 use mathlib.Core.Bool.{true, false}
@@ -20,7 +21,6 @@ use Rattle.file_model.specs.Load.{Outcome, None, Waits, accepted, refuse
 use Rattle.file_model.specs.Load.{afterOpen, afterFinancing, afterLine, beginsWithF}
 use Rattle.file_model.specs.Loads.{ordersIn, allAccepted, callLines, financingLines, openingLines}
 use Rattle.file_model.proofs.LineOrders.{order-begins}
-use Rattle.file_model.proofs.LoadCases.{impossible}
 use Rattle.file_model.proofs.OpeningHolders.{withHolders, with-no-holder, with-holder-first}
 
 -- One line
@@ -58,11 +58,11 @@ module _ (before b : Book) (n : ℕ) (l : List ℕ) (ls : List (List ℕ)) where
 end-line : (before b : Book) (n count : ℕ) (ls : List (List ℕ)) → count ≡ n → map orderIn ls ≡ End count ∷ []
     → loadFrom before b None n ls ≡ accepted count b
 unfolding loadFrom afterOpen afterLine
-end-line before b n count [] right e = impossible cc
+end-line before b n count [] right e = absurd (suc-ne-zero 0 cc)
 end-line before b n count (l ∷ []) right e =
     let is : orderIn l ≡ End count = cc in
     rw (rw is at (order-begins l), is, eq-eqb count n right) (ap (λ (k : ℕ). accepted k b) (sym right))
-end-line before b n count (l ∷ m ∷ ls) right e = impossible cc
+end-line before b n count (l ∷ m ∷ ls) right e = absurd (suc-ne-zero 0 cc)
 
 -- Lines in turn, where the lines `os` behind them come to the outcome `r`
 
@@ -72,7 +72,7 @@ module _ (before : Book) (os : List Order) (r : Outcome) where
       → loadFrom before b None n ls ≡ r
   unfolding allAccepted run
   calls-pass [] ls b n e all goes = goes n ls (omega arith) e
-  calls-pass (k ∷ ks) [] b n e all goes = impossible cc
+  calls-pass (k ∷ ks) [] b n e all goes = absurd (suc-ne-zero 0 cc)
   calls-pass (k ∷ ks) (l ∷ ls) b n e all goes =
       let both = both-true (accepts b k) (allAccepted (bookAfter b k) ks) all in
       call-line before b n l ls k (cc) (eqb-true _ _ (both .0))
@@ -87,7 +87,7 @@ module _ (before : Book) (os : List Order) (r : Outcome) where
       subst (λ p. loadFrom before b (Waits line p) n ls ≡ r) (with-no-holder o) (goes n ls (omega arith) e)
   financing-pass [] (s ∷ ss) ls b line o n e same few goes = absurd (omega arith)
   financing-pass (h ∷ hs) [] ls b line o n e same few goes = absurd (omega arith)
-  financing-pass (h ∷ hs) (s ∷ ss) [] b line o n e same few goes = impossible cc
+  financing-pass (h ∷ hs) (s ∷ ss) [] b line o n e same few goes = absurd (suc-ne-zero 0 cc)
   financing-pass (h ∷ hs) (s ∷ ss) (l ∷ ls) b line o n e same few goes =
       financing-line before b n l ls line o h s (cc) (omega arith)
       ∙ financing-pass hs ss ls b line (withHolder o h s) (n + 1) (cc) (omega arith) (omega (arith, length-append (o .holders) (h ∷ [])))
@@ -101,8 +101,8 @@ calls-begin (k ∷ ks) count l ls e = let is : orderIn l ≡ Later k = cc in rw 
 -- before it a waiting opening is called
 opening-runs : (before b : Book) (n line : ℕ) (o : Opening) (ks : List Call) (count : ℕ) (ls : List (List ℕ)) → map orderIn ls ≡ callLines ks count
     → openedWith b o .answer .number ≡ 0 → loadFrom before b (Waits line o) n ls ≡ loadFrom before (openedWith b o .book) None n ls
-opening-runs before b n line o [] count [] e zero = impossible cc
-opening-runs before b n line o (k ∷ ks) count [] e zero = impossible cc
+opening-runs before b n line o [] count [] e zero = absurd (suc-ne-zero 0 cc)
+opening-runs before b n line o (k ∷ ks) count [] e zero = absurd (suc-ne-zero 0 cc)
 opening-runs before b n line o ks count (l ∷ ls) e zero = opened-line before b n l ls line o (calls-begin ks count l ls e) zero
 
 -- an accepted opening has as many shares as holders, and no more than 64
@@ -134,7 +134,7 @@ call-refused b s ks k os e all other =
   where
     refuses : (m : ℕ) (rest : List (List ℕ)) → m ≡ 0 + length ks → map orderIn rest ≡ Later k ∷ os
         → loadFrom b (run b ks) None m rest ≡ refusedBy b (length ks + 1) (numberOf (run b ks) k)
-    refuses m [] at e = impossible cc
+    refuses m [] at e = absurd (suc-ne-zero 0 cc)
     refuses m (l ∷ ls) at e =
         refused-line b (run b ks) m l ls k (cc) other ∙ ap (λ (line : ℕ). refusedBy b line (numberOf (run b ks) k)) (omega arith)
 
@@ -161,7 +161,7 @@ opening-accepted s o ks e zero all = load-lines emptyBook s (rw e (omega arith))
         (λ m last until. end-line emptyBook (run (openingOf o .book) ks) m count last (omega arith))
 
     opens : (ls : List (List ℕ)) → map orderIn ls ≡ openingLines o ks count → loadFrom emptyBook emptyBook None 0 ls ≡ result
-    opens [] e = impossible cc
+    opens [] e = absurd (suc-ne-zero 0 cc)
     opens (l ∷ ls) e =
         opening-line emptyBook emptyBook 0 l ls (o .first) (o .term) (o .annual) (o .cents) (cc)
         ∙ financing-pass emptyBook (callLines ks count) result (o .holders) (o .shares) ls emptyBook 1

@@ -15,10 +15,6 @@ use Rattle.file_model.specs.Order.{Order, Open, Finance, Later, End, Mal
 use Rattle.file_model.specs.Load.{Outcome, Waiting, None, Waits, accepted, refusedBy, openingWith, withHolder, loadFrom}
 use Rattle.file_model.specs.Load.{afterCall, afterOpen, financed, afterFinancing, ended, afterLine, noneLeft, beginsWithF}
 
--- two constructors are not equal, as `cc` finds
-pub impossible : {A : Type 0} → _≡_ {A = ℕ} 0 1 → A
-impossible e = absurd (omega arith)
-
 pub none-left : (ls : List (List ℕ)) → noneLeft ls ≡ true → ls ≡ []
 none-left [] e = refl
 none-left (l ∷ ls) e = true-not-false false e refl

@@ -1,5 +1,6 @@
 -- The empty part at a file's end is named for 22 without an E line, and for no other refusal of a file with a byte.
 use Prim.Native.Nat.{ℕ, zero, suc, _+_, _≤_, _<_}
+use native.Mathlib.Nat.{suc-ne-zero}
 use native.Mathlib.Omega.{arith}
 use mathlib.Core.Path.{_≡_, refl, sym, _∙_}
 use mathlib.Core.Bool.{not}
@@ -19,7 +20,6 @@ use Rattle.lines.specs.Lines.{lines}
 use Rattle.file_model.specs.Order.{Order, Open, Finance, Later, End, Malformed, orderIn}
 use Rattle.file_model.specs.Load.{Outcome, Waiting, None, Waits, refusedBy, ended, loadFrom, loadOf}
 use Rattle.file_model.specs.Load.{afterCall, afterOpen, afterFinancing, afterLine, noneLeft, beginsWithF}
-use Rattle.file_model.proofs.LoadCases.{impossible}
 
 -- The book refuses with no number over 14
 
@@ -104,7 +104,7 @@ module _ (before : Book) (n : ℕ) (l : List ℕ) (ls : List (List ℕ)) where
   after-financing (Waits line o) (Open first term annual cents) rest is earlier goes = refused-here 21 (omega arith)
   after-financing (Waits line o) (Finance h s) rest is earlier goes =
       choice (Named n (l ∷ ls)) (leb 64 (length (o .holders))) (λ _. refused-here 7 (omega arith))
-      (λ _. later (Finance h s) is (λ count e. impossible cc) _ (goes _ (omega arith)))
+      (λ _. later (Finance h s) is (λ count e. absurd (suc-ne-zero 0 cc)) _ (goes _ (omega arith)))
   after-financing (Waits line o) (Later k) rest is earlier goes = refused-here 21 (omega arith)
   after-financing (Waits line o) (End count) rest is earlier goes = refused-here 21 (omega arith)
   after-financing (Waits line o) Malformed rest is earlier goes = refused-here 21 (omega arith)
@@ -122,11 +122,11 @@ module _ (before : Book) (n : ℕ) (l : List ℕ) (ls : List (List ℕ)) where
       → Named n (l ∷ ls) (afterLine before b n order (noneLeft ls) rest)
   unfolding afterLine
   after-line b (Open first term annual cents) rest is goes =
-      later (Open first term annual cents) is (λ count e. impossible cc) _ (goes b _ (omega arith))
+      later (Open first term annual cents) is (λ count e. absurd (suc-ne-zero 0 cc)) _ (goes b _ (omega arith))
   after-line b (Finance h s) rest is goes = refused-here 21 (omega arith)
   after-line b (Later k) rest is goes =
       after-call before n (l ∷ ls) (n + 1) (numberOf b k) (bookAfter b k) (λ after. rest after None) (omega arith) (omega (arith, call-most b k))
-      (later (Later k) is (λ count e. impossible cc) _ (goes (bookAfter b k) None tt))
+      (later (Later k) is (λ count e. absurd (suc-ne-zero 0 cc)) _ (goes (bookAfter b k) None tt))
   after-line b (End count) rest is goes = at-end b count is
   after-line b Malformed rest is goes = refused-here 21 (omega arith)
 
@@ -136,7 +136,7 @@ names : (before b : Book) (waiting : Waiting) (n : ℕ) (ls : List (List ℕ)) �
 unfolding loadFrom orderIn lineOf
 names before b waiting n [] earlier =
     after-open before n [] b waiting (λ _. refusedBy before (n + 1) 22) earlier
-    (λ _. behind refl (omega arith) (λ i count e. impossible cc))
+    (λ _. behind refl (omega arith) (λ i count e. absurd (suc-ne-zero 0 cc)))
 names before b waiting n (l ∷ ls) earlier =
     choice (Named n (l ∷ ls)) (beginsWithF l)
     (λ _. after-financing before n l ls waiting (orderIn l) _ refl earlier (λ next. names before b next (n + 1) ls))

@@ -36,6 +36,17 @@ pub neither-true : (s t : Bool) → s || t ≡ false → (s ≡ false) × (t ≡
 neither-true true t e = true-not-false true refl e
 neither-true false t e = (refl, e)
 
+abbrev pub FiveTrue : Bool → Bool → Bool → Bool → Bool → Type 0
+FiveTrue q r s t u = (q ≡ true) × (r ≡ true) × (s ≡ true) × (t ≡ true) × (u ≡ true)
+
+pub five-true : (q r s t u : Bool) → q && (r && (s && (t && u))) ≡ true → FiveTrue q r s t u
+five-true q r s t u e =
+    let first = both-true q (r && (s && (t && u))) e in
+    let second = both-true r (s && (t && u)) (first .1) in
+    let third = both-true s (t && u) (second .1) in
+    let fourth = both-true t u (third .1) in
+    (first .0, second .0, third .0, fourth .0, fourth .1)
+
 -- tests that imply each other are equal
 pub test-same : (s t : Bool) → (s ≡ true → t ≡ true) → (t ≡ true → s ≡ true) → s ≡ t
 test-same s true f g = g refl

@@ -9,3 +9,6 @@ pub mod Totals
 pub mod Fronts
 pub mod Members
 pub mod Rests
+pub mod Stores
+pub mod Parts
+pub mod Powers

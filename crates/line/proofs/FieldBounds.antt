@@ -37,13 +37,10 @@ step-below (Number n) c k pos h = go (eqb n 0)
     go false = digit-below c (n * 10 + (c - 48)) (k * 10) (λ le. omega arith)
 step-below Bad c k pos h = tt
 
-pub power-positive : (w : ℕ) → 0 < 10 ^ w
-power-positive w = one-le-pow w 10 (omega arith)
-
 pub field-below : (s : List ℕ) (at w : ℕ) → Below (fieldAt s at w) (10 ^ w)
 unfolding fieldAt
 field-below s at zero = tt
-field-below s at (suc w) = rw pow-suc (step-below (fieldAt s at w) (getD s (at + w) 0) (10 ^ w) (power-positive w) (field-below s at w))
+field-below s at (suc w) = rw pow-suc (step-below (fieldAt s at w) (getD s (at + w) 0) (10 ^ w) (one-le-pow w 10 (omega arith)) (field-below s at w))
 
 below-more : (f : Field) (j k : ℕ) → j ≤ k → Below f j → Below f k
 below-more Blank j k le h = tt

@@ -4,7 +4,7 @@ use mathlib.Core.Bool.{Bool, true, false, cond, _&&_}
 use mathlib.Core.List.{List}
 use Prim.Native.Nat.{ℕ, zero, suc, _+_, _-_, _*_, _^_, _≤_, _<_}
 use native.Mathlib.Decide.{decLt}
-use native.Mathlib.Nat.{add-zero, add-suc}
+use native.Mathlib.Nat.{add-zero, add-suc, one-le-pow}
 use native.Mathlib.Numerals.{add-one}
 use native.Mathlib.Omega.{arith}
 use lib.Dec.{leb, eqb}
@@ -14,7 +14,7 @@ use Rattle.line.specs.declared.field.Field.{Field}
 use Rattle.line.specs.declared.field.Field.the-variants.{Blank, Number, Bad}
 use Rattle.line.specs.Field.{isDigit, stepOf, fieldAt}
 use Rattle.line.specs.FieldBelow.{Below}
-use Rattle.line.proofs.FieldBounds.{power-positive, field-below-wider}
+use Rattle.line.proofs.FieldBounds.{field-below-wider}
 use Rattle.line.proofs.FieldRoundTrip.{shown, step-digit}
 
 -- One column
@@ -102,4 +102,4 @@ module _ (s : List ℕ) (at : ℕ) where
 
     -- up to 18 columns
     pub digits-below : i ≤ 18 → n < 10 ^ 18
-    digits-below h = shown-below n (10 ^ 18) (power-positive 18) (rw e at (field-below-wider s at i 18 h))
+    digits-below h = shown-below n (10 ^ 18) (one-le-pow 18 10 (omega arith)) (rw e at (field-below-wider s at i 18 h))

@@ -3,15 +3,15 @@ use mathlib.Core.Path.{_≡_, refl, sym, ap, _∙_}
 use mathlib.Core.Bool.{Bool, true, false, cond, _&&_}
 use mathlib.Core.List.{List, [], _∷_, _++_}
 use Prim.Native.Nat.{ℕ, zero, suc, _+_, _-_, _*_, _/_, _%_, _^_, _≤_, _<_}
-use native.Mathlib.Nat.{pow-suc, div-lt-iff-lt-mul}
+use native.Mathlib.Nat.{one-le-pow, suc-ne-zero}
 use native.Mathlib.Omega.{arith}
 use lib.Dec.{leb, eqb}
-use lib.ListN.{length, getD, take, drop, length-drop}
-use lib.Seq.{take-suc, getD-drop}
+use lib.ListN.{length, getD, take, drop}
 use borrow.Author.Tests.{le-leb, leb-true, eqb-true, eq-eqb, ne-eqb}
+use Rattle.general_laws.proofs.Parts.{part-longer}
+use Rattle.general_laws.proofs.Powers.{quotient-below}
 use Rattle.line.specs.declared.field.Field.{Field}
 use Rattle.line.specs.declared.field.Field.the-variants.{Blank, Number, Bad}
-use Rattle.line.proofs.FieldBounds.{power-positive}
 use Rattle.line.specs.Field.{isDigit, stepOf, fieldAt, symbolOf, padded, justified}
 
 -- the columns of a list, read one after the other
@@ -24,17 +24,12 @@ unfolding columns
 columns-snoc f [] c = refl
 columns-snoc f (x ∷ l) c = columns-snoc (stepOf f x) l c
 
--- the part of s that a field is, one column longer
-part-suc : (s : List ℕ) (at w : ℕ) → at + suc w ≤ length s → take (suc w) (drop at s) ≡ take w (drop at s) ++ (getD s (at + w) 0 ∷ [])
-part-suc s at w h =
-    take-suc (drop at s) w 0 (simp length-drop (omega arith)) ∙ ap (λ (c : ℕ). take w (drop at s) ++ (c ∷ [])) (getD-drop at s w 0)
-
 pub field-columns : (s : List ℕ) (at w : ℕ) → at + w ≤ length s → fieldAt s at w ≡ columns Blank (take w (drop at s))
 unfolding fieldAt columns
 field-columns s at zero h = refl
 field-columns s at (suc w) h =
     ap (λ (f : Field). stepOf f (getD s (at + w) 0)) (field-columns s at w (omega arith))
-    ∙ sym (ap (columns Blank) (part-suc s at w h) ∙ columns-snoc Blank (take w (drop at s)) (getD s (at + w) 0))
+    ∙ sym (ap (columns Blank) (part-longer s at w 0 h) ∙ columns-snoc Blank (take w (drop at s)) (getD s (at + w) 0))
 
 -- the field of the columns of `padded`
 abbrev pub shown : ℕ → Field
@@ -66,9 +61,6 @@ step-shown m = go (eqb m 0) refl
         let n : m / 10 * 10 + m % 10 ≡ m = omega arith in
         simp e (step-digit (m / 10) (m % 10) (omega arith) ∙ ap Number n)
 
-tenth : (m w : ℕ) → m < 10 ^ suc w → m / 10 < 10 ^ w
-tenth m w h = div-lt-iff-lt-mul {k = 10} (omega arith) .1 (rw pow-suc at h)
-
 padded-reads : (w m : ℕ) → m < 10 ^ w → columns Blank (padded w m) ≡ shown m
 unfolding padded columns
 padded-reads zero m h =
@@ -76,7 +68,7 @@ padded-reads zero m h =
     rw z
 padded-reads (suc w) m h =
     columns-snoc Blank (padded w (m / 10)) (symbolOf m)
-    ∙ ap (λ (f : Field). stepOf f (symbolOf m)) (padded-reads w (m / 10) (tenth m w h)) ∙ step-shown m
+    ∙ ap (λ (f : Field). stepOf f (symbolOf m)) (padded-reads w (m / 10) (quotient-below 10 m w (omega arith) h)) ∙ step-shown m
 
 -- a written field reads back
 pub number-reads : (w n : ℕ) → 0 < w → n < 10 ^ w → columns Blank (justified w n) ≡ Number n
@@ -85,7 +77,7 @@ number-reads zero n pos h = absurd (omega arith)
 number-reads (suc w) n pos h =
     let e : n / 10 * 10 + n % 10 ≡ n = omega arith in
     columns-snoc Blank (padded w (n / 10)) (48 + n % 10)
-    ∙ ap (λ (f : Field). stepOf f (48 + n % 10)) (padded-reads w (n / 10) (tenth n w h))
+    ∙ ap (λ (f : Field). stepOf f (48 + n % 10)) (padded-reads w (n / 10) (quotient-below 10 n w (omega arith) h))
     ∙ step-digit (n / 10) (n % 10) (omega arith) ∙ ap Number e
 
 -- what a digit shows of its byte
@@ -94,35 +86,35 @@ digit-inv c a n h = go (leb 48 c) (leb c 57) refl refl h
   where
     go : (p q : Bool) → leb 48 c ≡ p → leb c 57 ≡ q → cond (p && q) (Number a) Bad ≡ Number n → (48 ≤ c) × (c ≤ 57) × (a ≡ n)
     go true true e f k = (leb-true 48 c e, leb-true c 57 f, cc)
-    go true false e f k = let z : _≡_ {A = ℕ} 0 1 = cc in absurd (omega arith)
-    go false q e f k = let z : _≡_ {A = ℕ} 0 1 = cc in absurd (omega arith)
+    go true false e f k = absurd (suc-ne-zero 0 cc)
+    go false q e f k = absurd (suc-ne-zero 0 cc)
 
 -- a field that ends in a number: the field before it, and its last column
 step-inv : (f : Field) (c n : ℕ) → stepOf f c ≡ Number n → (f ≡ shown (n / 10)) × (c ≡ 48 + n % 10)
 step-inv Blank c n h = go (eqb c 32) refl h
   where
     go : (p : Bool) → eqb c 32 ≡ p → cond p Blank (cond (isDigit c) (Number (c - 48)) Bad) ≡ Number n → (Blank ≡ shown (n / 10)) × (c ≡ 48 + n % 10)
-    go true e k = let z : _≡_ {A = ℕ} 0 1 = cc in absurd (omega arith)
+    go true e k = absurd (suc-ne-zero 0 cc)
     go false e k =
         let d = digit-inv c (c - 48) n k in
         (simp (eq-eqb (n / 10) 0 (omega arith)), omega arith)
 step-inv (Number m) c n h = go (eqb m 0) refl h
   where
     go : (p : Bool) → eqb m 0 ≡ p → cond p Bad (cond (isDigit c) (Number (m * 10 + (c - 48))) Bad) ≡ Number n → (Number m ≡ shown (n / 10)) × (c ≡ 48 + n % 10)
-    go true e k = let z : _≡_ {A = ℕ} 0 1 = cc in absurd (omega arith)
+    go true e k = absurd (suc-ne-zero 0 cc)
     go false e k =
         let d = digit-inv c (m * 10 + (c - 48)) n k in
         let q : m ≡ n / 10 = omega arith in
         (simp (← q, e), omega arith)
-step-inv Bad c n h = let z : _≡_ {A = ℕ} 0 1 = cc in absurd (omega arith)
+step-inv Bad c n h = absurd (suc-ne-zero 0 cc)
 
 -- what a byte that is no digit cannot give
 digit-blank : (c a : ℕ) → cond (isDigit c) (Number a) Bad ≡ Blank → ⊥
 digit-blank c a h = go (isDigit c) h
   where
     go : (p : Bool) → cond p (Number a) Bad ≡ Blank → ⊥
-    go true k = let z : _≡_ {A = ℕ} 0 1 = cc in omega arith
-    go false k = let z : _≡_ {A = ℕ} 0 1 = cc in omega arith
+    go true k = suc-ne-zero 0 cc
+    go false k = suc-ne-zero 0 cc
 
 step-blank : (f : Field) (c : ℕ) → stepOf f c ≡ Blank → (f ≡ Blank) × (c ≡ 32)
 step-blank Blank c h = go (eqb c 32) refl h
@@ -133,9 +125,9 @@ step-blank Blank c h = go (eqb c 32) refl h
 step-blank (Number m) c h = go (eqb m 0) h
   where
     go : (p : Bool) → cond p Bad (cond (isDigit c) (Number (m * 10 + (c - 48))) Bad) ≡ Blank → (Number m ≡ Blank) × (c ≡ 32)
-    go true k = let z : _≡_ {A = ℕ} 0 1 = cc in absurd (omega arith)
+    go true k = absurd (suc-ne-zero 0 cc)
     go false k = absurd (digit-blank c (m * 10 + (c - 48)) k)
-step-blank Bad c h = let z : _≡_ {A = ℕ} 0 1 = cc in absurd (omega arith)
+step-blank Bad c h = absurd (suc-ne-zero 0 cc)
 
 -- the same for a field of `padded`
 shown-inv : (f : Field) (c q : ℕ) → stepOf f c ≡ shown q → (f ≡ shown (q / 10)) × (c ≡ symbolOf q)
@@ -156,7 +148,7 @@ module _ (s : List ℕ) (at : ℕ) where
   padded-same zero q h e = refl
   padded-same (suc w) q h e =
       let b = shown-inv (fieldAt s at w) (getD s (at + w) 0) q e in
-      part-suc s at w h ∙ ap (λ (l : List ℕ). l ++ (getD s (at + w) 0 ∷ [])) (padded-same w (q / 10) (omega arith) (b .0))
+      part-longer s at w 0 h ∙ ap (λ (l : List ℕ). l ++ (getD s (at + w) 0 ∷ [])) (padded-same w (q / 10) (omega arith) (b .0))
       ∙ ap (λ (c : ℕ). padded w (q / 10) ++ (c ∷ [])) (b .1)
 
   -- a field that is a number is written as the same bytes
@@ -165,7 +157,7 @@ module _ (s : List ℕ) (at : ℕ) where
   number-same zero n h e = refl
   number-same (suc w) n h e =
       let b = step-inv (fieldAt s at w) (getD s (at + w) 0) n e in
-      part-suc s at w h ∙ ap (λ (l : List ℕ). l ++ (getD s (at + w) 0 ∷ [])) (padded-same w (n / 10) (omega arith) (b .0))
+      part-longer s at w 0 h ∙ ap (λ (l : List ℕ). l ++ (getD s (at + w) 0 ∷ [])) (padded-same w (n / 10) (omega arith) (b .0))
       ∙ ap (λ (c : ℕ). padded w (n / 10) ++ (c ∷ [])) (b .1)
 
   -- an unused field is written as spaces
@@ -174,4 +166,4 @@ module _ (s : List ℕ) (at : ℕ) where
 
 -- spaces read as an unused field
 pub blank-reads : (w : ℕ) → columns Blank (padded w 0) ≡ Blank
-blank-reads w = padded-reads w 0 (power-positive w)
+blank-reads w = padded-reads w 0 (one-le-pow w 10 (omega arith))

@@ -1,7 +1,7 @@
 -- Facts about the definitions. `LineRoundTrip` and `Examples` are what the crate states, `Callers` is what callers cite, the others are what
 -- proofs here cite.
 mod FieldBounds
-mod Stores
+mod NumberStores
 mod FieldRoundTrip
 mod FieldReading
 mod LineStores

@@ -1,6 +1,6 @@
 -- What refuses a line: another length than 43, another last byte than a line feed, or a line feed among its columns.
 use mathlib.Core.Path.{_≡_, refl, ap, _∙_}
-use mathlib.Core.Bool.{Bool, true, false, cond, _&&_}
+use mathlib.Core.Bool.{Bool, true, false, cond, _&&_, and-false}
 use mathlib.Core.List.{List}
 use Prim.Native.Nat.{ℕ, suc, _+_, _-_, _≤_, _<_}
 use native.Mathlib.Decide.{decLt}
@@ -38,10 +38,6 @@ feed-bad s at w k from to e =
     (ap (λ (i : ℕ). stepOf (fieldAt s at (k - at)) (getD s i 0)) n
     ∙ ap (stepOf (fieldAt s at (k - at))) e
     ∙ step-feed (fieldAt s at (k - at)))
-
-and-false : (t : Bool) → (t && false) ≡ false
-and-false true = refl
-and-false false = refl
 
 unformed : (l : ℕ) (u : Uses) (date first second third : Field) → formed u date first second third ≡ false
     → Refused (assembledOf l u date first second third)

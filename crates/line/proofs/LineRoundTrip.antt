@@ -1,13 +1,15 @@
 -- A written line reads back as its fields, and a well-formed line's fields are written as the same bytes.
 use mathlib.Core.Path.{_≡_, refl, sym, ap, _∙_, subst}
-use mathlib.Core.Bool.{Bool, true, false, cond, _&&_}
+use mathlib.Core.Bool.{Bool, true, false, cond, _&&_, false≢true}
 use mathlib.Core.List.{List, [], _∷_, _++_}
 use Prim.Native.Nat.{ℕ, _+_, _^_, _≤_, _<_}
 use native.Mathlib.Omega.{arith}
 use lib.Dec.{leb, eqb}
-use lib.ListN.{length, getD, take, drop, take-append-drop, drop-of-length-le}
-use lib.Seq.{take-at, drop-append-add, drop-drop, getD-drop, drop-cons}
+use lib.ListN.{length, getD, take, drop, drop-of-length-le}
+use lib.Seq.{take-at, getD-drop, drop-cons}
 use borrow.Author.Tests.{ltb-true, lt-ltb, le-leb, eqb-true, eq-eqb}
+use Rattle.general_laws.proofs.Choice.{FiveTrue, five-true}
+use Rattle.general_laws.proofs.Parts.{part-followed, part-passed}
 use Rattle.line.specs.declared.Fields.{Fields}
 use Rattle.line.specs.declared.field.Field.{Field}
 use Rattle.line.specs.declared.field.Field.the-variants.{Blank, Number, Bad}
@@ -21,20 +23,6 @@ use Rattle.line.proofs.FieldBounds.{field-below}
 use Rattle.line.proofs.FieldRoundTrip.{columns, field-columns, number-reads, blank-reads, number-same, blank-same}
 use Rattle.line.proofs.LineStores.{length-field, length-bytes, length-line}
 
-no-false : {A : Type 0} → false ≡ true → A
-no-false h = let z : _≡_ {A = ℕ} 0 1 = cc in absurd (omega arith)
-
--- the parts of a test of five
-abbrev Five : Bool → Bool → Bool → Bool → Bool → Type 0
-Five k a b c d = (k ≡ true) × (a ≡ true) × (b ≡ true) × (c ≡ true) × (d ≡ true)
-
-five : (k a b c d : Bool) → (k && (a && (b && (c && d)))) ≡ true → Five k a b c d
-five true true true true d h = (refl, refl, refl, refl, h)
-five true true true false d h = no-false h
-five true true false c d h = no-false h
-five true false b c d h = no-false h
-five false a b c d h = no-false h
-
 -- Written, then read
 
 -- a field's bytes read back
@@ -47,10 +35,6 @@ bytes-read true w n pos h =
 bytes-read false w n pos h =
     let e = blank-reads w in
     (rw e, rw e (sym (eqb-true n 0 h)))
-
--- what stands past a part of known length
-past : (xs ys : List ℕ) (w n : ℕ) → length xs ≡ w → drop (w + n) (xs ++ ys) ≡ drop n ys
-past xs ys w n e = ap (λ (k : ℕ). drop (k + n) (xs ++ ys)) (sym e) ∙ drop-append-add xs ys n
 
 -- a field whose bytes stand at `at`
 field-there : (s ys : List ℕ) (at : ℕ) (u : Bool) (w n : ℕ) → at + w ≤ length s → drop at s ≡ fieldBytes u w n ++ ys
@@ -102,20 +86,20 @@ module _ (u : Uses) (f : Fields) (h : fitsAll u f ≡ true) where
   long = length-bytes u f
 
   at-first : drop 9 bytes ≡ fromFirst
-  at-first = past dateBytes fromFirst 8 0 date-long
+  at-first = part-passed dateBytes fromFirst 8 0 date-long
 
   at-second : drop 18 bytes ≡ fromSecond
-  at-second = past dateBytes fromFirst 8 9 date-long ∙ past firstBytes fromSecond 9 0 first-long
+  at-second = part-passed dateBytes fromFirst 8 9 date-long ∙ part-passed firstBytes fromSecond 9 0 first-long
 
   at-third : drop 27 bytes ≡ fromThird
-  at-third = past dateBytes fromFirst 8 18 date-long ∙ past firstBytes fromSecond 9 9 first-long ∙ past secondBytes fromThird 9 0 second-long
+  at-third = part-passed dateBytes fromFirst 8 18 date-long ∙ part-passed firstBytes fromSecond 9 9 first-long ∙ part-passed secondBytes fromThird 9 0 second-long
 
   at-feed : drop 42 bytes ≡ 10 ∷ []
   at-feed =
-      past dateBytes fromFirst 8 33 date-long
-      ∙ past firstBytes fromSecond 9 24 first-long
-      ∙ past secondBytes fromThird 9 15 second-long
-      ∙ past thirdBytes (10 ∷ []) 15 0 third-long
+      part-passed dateBytes fromFirst 8 33 date-long
+      ∙ part-passed firstBytes fromSecond 9 24 first-long
+      ∙ part-passed secondBytes fromThird 9 15 second-long
+      ∙ part-passed thirdBytes (10 ∷ []) 15 0 third-long
 
   feed : getD bytes 42 0 ≡ 10
   feed = sym (getD-drop 42 bytes 0 0) ∙ ap (λ (l : List ℕ). getD l 0 0) at-feed
@@ -123,12 +107,12 @@ module _ (u : Uses) (f : Fields) (h : fitsAll u f ≡ true) where
   assembled-back : assembledOf (f .letter) u (fieldAt bytes 1 8) (fieldAt bytes 9 9) (fieldAt bytes 18 9) (fieldAt bytes 27 15) ≡ (0, f)
   unfolding fitsAll assembledOf
   assembled-back =
-      let g : Five
+      let g : FiveTrue
       (u .known)
       (fits (u .date) (10 ^ 8) (f .date))
       (fits (u .first) (10 ^ 9) (f .first))
       (fits (u .second) (10 ^ 9) (f .second))
-      (fits (u .third) (10 ^ 15) (f .third)) = five _ _ _ _ _ h in
+      (fits (u .third) (10 ^ 15) (f .third)) = five-true _ _ _ _ _ h in
       let date = bytes-read (u .date) 8 (f .date) (omega arith) (g .1) in
       let first = bytes-read (u .first) 9 (f .first) (omega arith) (g .2) in
       let second = bytes-read (u .second) 9 (f .second) (omega arith) (g .3) in
@@ -163,27 +147,20 @@ unfolding fieldBytes
 field-written s at u w le h = go u (fieldAt s at w) refl h
   where
     go : (t : Bool) (x : Field) → fieldAt s at w ≡ x → proper t x ≡ true → take w (drop at s) ≡ fieldBytes t w (numberOf x)
-    go true Blank e k = no-false k
+    go true Blank e k = absurd (false≢true k)
     go true (Number n) e k = number-same s at w n le e
-    go true Bad e k = no-false k
+    go true Bad e k = absurd (false≢true k)
     go false Blank e k = blank-same s at w le e
-    go false (Number n) e k = no-false k
-    go false Bad e k = no-false k
+    go false (Number n) e k = absurd (false≢true k)
+    go false Bad e k = absurd (false≢true k)
 
 proper-fits : (u : Bool) (x : Field) (k : ℕ) → Below x k → proper u x ≡ true → fits u k (numberOf x) ≡ true
-proper-fits true Blank k b h = no-false h
+proper-fits true Blank k b h = absurd (false≢true h)
 proper-fits true (Number n) k b h = lt-ltb n k b
-proper-fits true Bad k b h = no-false h
+proper-fits true Bad k b h = absurd (false≢true h)
 proper-fits false Blank k b h = refl
-proper-fits false (Number n) k b h = no-false h
-proper-fits false Bad k b h = no-false h
-
--- a part, and what follows it
-cut : (s xs : List ℕ) (at w e : ℕ) → at + w ≡ e → take w (drop at s) ≡ xs → drop at s ≡ xs ++ drop e s
-cut s xs at w e p h =
-    sym (take-append-drop w (drop at s))
-    ∙ ap (λ (l : List ℕ). l ++ drop w (drop at s)) h
-    ∙ ap (λ (l : List ℕ). xs ++ l) (drop-drop w at s ∙ ap (λ (k : ℕ). drop k s) p)
+proper-fits false (Number n) k b h = absurd (false≢true h)
+proper-fits false Bad k b h = absurd (false≢true h)
 
 module _ (s : List ℕ) where
   abbrev letter : ℕ
@@ -207,7 +184,7 @@ module _ (s : List ℕ) where
   -- the fields are proper under a known letter that uses u
   abbrev Proper : Uses → Type 0
   Proper u =
-      Five
+      FiveTrue
       (u .known)
       (proper (u .date) dateField)
       (proper (u .first) firstField)
@@ -234,12 +211,12 @@ module _ (s : List ℕ) where
 
     from-third : drop 27 s ≡ fieldBytes (u .third) 15 (numberOf thirdField) ++ (10 ∷ [])
     from-third =
-        cut s _ 27 15 42 refl (field-written s 27 (u .third) 15 (omega (arith, long)) (g .4))
+        part-followed s _ 27 15 42 refl (field-written s 27 (u .third) 15 (omega (arith, long)) (g .4))
         ∙ ap (λ (l : List ℕ). fieldBytes (u .third) 15 (numberOf thirdField) ++ l) from-feed
 
     from-second : drop 18 s ≡ fieldBytes (u .second) 9 (numberOf secondField) ++ (fieldBytes (u .third) 15 (numberOf thirdField) ++ (10 ∷ []))
     from-second =
-        cut s _ 18 9 27 refl (field-written s 18 (u .second) 9 (omega (arith, long)) (g .3))
+        part-followed s _ 18 9 27 refl (field-written s 18 (u .second) 9 (omega (arith, long)) (g .3))
         ∙ ap (λ (l : List ℕ). fieldBytes (u .second) 9 (numberOf secondField) ++ l) from-third
 
     bytes-same : s ≡ bytesUnder u read
@@ -247,9 +224,9 @@ module _ (s : List ℕ) where
     bytes-same =
         drop-cons s 0 0 (omega (arith, long))
         ∙ ap (λ (l : List ℕ). letter ∷ l)
-        (cut s _ 1 8 9 refl (field-written s 1 (u .date) 8 (omega (arith, long)) (g .1))
+        (part-followed s _ 1 8 9 refl (field-written s 1 (u .date) 8 (omega (arith, long)) (g .1))
         ∙ ap (λ (l : List ℕ). fieldBytes (u .date) 8 (numberOf dateField) ++ l)
-        (cut s _ 9 9 18 refl (field-written s 9 (u .first) 9 (omega (arith, long)) (g .2))
+        (part-followed s _ 9 9 18 refl (field-written s 9 (u .first) 9 (omega (arith, long)) (g .2))
         ∙ ap (λ (l : List ℕ). fieldBytes (u .first) 9 (numberOf firstField) ++ l) from-second))
 
 -- the fields fit a line, which has the bytes s
@@ -277,7 +254,7 @@ line-written s f h =
         → cond (p && q) (cond k (0, read s) none) none ≡ (0, f)
         → WrittenAs s f
     go true true true a b c e =
-        let g : Proper s u = five _ _ _ _ _ c in
+        let g : Proper s u = five-true _ _ _ _ _ c in
         subst
         (WrittenAs s)
         (ap (λ (r : ℕ × Fields). r .1) e)

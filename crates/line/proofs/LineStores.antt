@@ -1,25 +1,22 @@
 -- The stores that make a line, and the buffer after them.
-use mathlib.Core.Path.{_≡_, refl, sym, ap, _∙_}
+use mathlib.Core.Path.{_≡_, refl, sym, _∙_}
 use mathlib.Core.Bool.{Bool, true, false}
 use mathlib.Core.List.{List, _++_}
-use Prim.Native.Nat.{ℕ, _+_, _≤_}
+use Prim.Native.Nat.{ℕ, _≤_}
 use native.Mathlib.Omega.{arith}
 use lib.ListN.{length, set, drop, length-append}
 use lib.Seq.{sets, sets-eq}
+use Rattle.general_laws.proofs.Stores.{sets-append-at}
 use Rattle.line.specs.declared.Fields.{Fields}
 use Rattle.line.specs.declared.line.Uses.{Uses}
 use Rattle.line.specs.Line.{usesOf}
 use Rattle.line.specs.Write.{fieldBytes, bytesUnder, lineBytes}
-use Rattle.line.proofs.Stores.{sets-append, length-padded, length-justified}
+use Rattle.line.proofs.NumberStores.{length-padded, length-justified}
 
 pub length-field : (u : Bool) (w n : ℕ) → length (fieldBytes u w n) ≡ w
 unfolding fieldBytes
 length-field true w n = length-justified w n
 length-field false w n = length-padded w 0
-
--- a run in front of another, at a place that is known
-then-sets : (xs ys b : List ℕ) (i w : ℕ) → length xs ≡ w → sets b i (xs ++ ys) ≡ sets (sets b i xs) (i + w) ys
-then-sets xs ys b i w e = sets-append xs ys b i ∙ ap (λ (k : ℕ). sets (sets b i xs) (i + k) ys) e
 
 -- the stores, one after the other
 pub line-sets : (b : List ℕ) (u : Uses) (f : Fields)
@@ -36,10 +33,10 @@ pub line-sets : (b : List ℕ) (u : Uses) (f : Fields)
     ≡ sets b 0 (bytesUnder u f)
 unfolding bytesUnder
 line-sets b u f =
-    sym (then-sets (fieldBytes (u .date) 8 (f .date)) _ _ 1 8 (length-field (u .date) 8 (f .date))
-    ∙ then-sets (fieldBytes (u .first) 9 (f .first)) _ _ 9 9 (length-field (u .first) 9 (f .first))
-    ∙ then-sets (fieldBytes (u .second) 9 (f .second)) _ _ 18 9 (length-field (u .second) 9 (f .second))
-    ∙ then-sets (fieldBytes (u .third) 15 (f .third)) _ _ 27 15 (length-field (u .third) 15 (f .third)))
+    sym (sets-append-at (fieldBytes (u .date) 8 (f .date)) _ _ 1 8 (length-field (u .date) 8 (f .date))
+    ∙ sets-append-at (fieldBytes (u .first) 9 (f .first)) _ _ 9 9 (length-field (u .first) 9 (f .first))
+    ∙ sets-append-at (fieldBytes (u .second) 9 (f .second)) _ _ 18 9 (length-field (u .second) 9 (f .second))
+    ∙ sets-append-at (fieldBytes (u .third) 15 (f .third)) _ _ 27 15 (length-field (u .third) 15 (f .third)))
 
 pub length-bytes : (u : Uses) (f : Fields) → length (bytesUnder u f) ≡ 43
 unfolding bytesUnder

@@ -10,7 +10,8 @@ use Rattle.account.specs.declared.Account.{Account}
 use Rattle.book_model.specs.declared.Position.{Position}
 use Rattle.line.specs.Field.{justified}
 use Rattle.line.specs.Write.{numberPut}
-use Rattle.line.proofs.Callers.{put-within, length-put, sets-append, length-justified}
+use Rattle.general_laws.proofs.Stores.{sets-append-at}
+use Rattle.line.proofs.Callers.{put-within, length-put, length-justified}
 use Rattle.report.specs.Statement.{totalsLine, positionLine, refusalLine}
 
 -- A number put into a buffer
@@ -20,8 +21,8 @@ module _ (b : List ℕ) (at w n : ℕ) where
   put-then : (ys : List ℕ) (k : ℕ) → at + w ≤ length b → at + w ≡ k → sets (numberPut b at w n) k ys ≡ sets b at (justified w n ++ ys)
   put-then ys k h e =
       ap (λ (l : List ℕ). sets l k ys) (put-within b at w n h)
-      ∙ ap (λ (i : ℕ). sets (sets b at (justified w n)) i ys) (sym e ∙ ap (λ (v : ℕ). at + v) (sym (length-justified w n)))
-      ∙ sym (sets-append (justified w n) ys b at)
+      ∙ ap (λ (i : ℕ). sets (sets b at (justified w n)) i ys) (sym e)
+      ∙ sym (sets-append-at (justified w n) ys b at w (length-justified w n))
 
 -- The stores of a line, one after the other
 

@@ -17,8 +17,8 @@ use Rattle.book_model.specs.Outcome.{noPosition, placeStated}
 use Rattle.book_model.specs.Reached.{Reached}
 use Rattle.book_model.specs.Read.{positionAt}
 use Rattle.general_laws.proofs.Choice.{by-order}
+use Rattle.general_laws.proofs.Stores.{sets-append}
 use Rattle.book_model.proofs.Callers.{no-refusal-is-0, length-held, sound, place-beyond, place-known}
-use Rattle.line.proofs.Callers.{sets-append}
 use Rattle.report.specs.Statement.{positionLine, positionLines}
 use Rattle.report.proofs.StatementLengths.{positions-length}
 

@@ -18,9 +18,9 @@ use Rattle.book_model.specs.Book.{emptyBook, held}
 use Rattle.book_model.specs.Outcome.{Answer, Totals, totalsStated}
 use Rattle.book_model.specs.Read.{totalsOf}
 use Rattle.general_laws.proofs.Choice.{by-test}
+use Rattle.general_laws.proofs.Stores.{sets-append}
 use Rattle.book_model.proofs.Callers.{no-refusal-is-0, totals-unopened}
 use Rattle.line.specs.Line.{malformedNumber}
-use Rattle.line.proofs.Callers.{sets-append}
 use Rattle.file_model.specs.declared.LoadAnswer.{LoadAnswer}
 use Rattle.file_model.specs.declared.LoadAnswer.the-variants as load-answer
 use Rattle.file_model.specs.declared.Loaded.{Loaded}

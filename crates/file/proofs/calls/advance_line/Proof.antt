@@ -22,8 +22,9 @@ returns c =
 
 returns-2 : tie.Need-returns-2
 returns-2 c =
-    let k = c .before .before .before .before in
-    call-refused _ (k .before .pre) _ _ _ _ _ (told advanceCase _ _ _ _ (c .before .answer .given .1) (k .advance .ensures))
+    let refused = c .before in
+    let k = refused .before .before .before in
+    call-refused _ (k .before .pre) _ _ _ _ _ (told advanceCase _ _ _ _ (refused .answer .given .1) (k .advance .ensures))
 
 pub advance-line-spec : {M : Type 1} → statement M
 advance-line-spec = tie.close (tie.spec advance-requires enum-told enum-known-answer returns returns-2)

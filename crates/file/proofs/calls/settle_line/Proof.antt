@@ -22,8 +22,9 @@ returns c =
 
 returns-2 : tie.Need-returns-2
 returns-2 c =
-    let k = c .before .before .before .before in
-    call-refused _ (k .before .pre) _ _ _ _ _ (told settleCase _ _ _ _ (c .before .answer .given .1) (k .settle .ensures))
+    let refused = c .before in
+    let k = refused .before .before .before in
+    call-refused _ (k .before .pre) _ _ _ _ _ (told settleCase _ _ _ _ (refused .answer .given .1) (k .settle .ensures))
 
 pub settle-line-spec : {M : Type 1} → statement M
 settle-line-spec = tie.close (tie.spec settle-requires enum-told enum-known-answer returns returns-2)

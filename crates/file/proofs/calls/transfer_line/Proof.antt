@@ -22,8 +22,9 @@ returns c =
 
 returns-2 : tie.Need-returns-2
 returns-2 c =
-    let k = c .before .before .before .before in
-    call-refused _ (k .before .pre) _ _ _ _ _ (told transferCase _ _ _ _ (c .before .answer .given .1) (k .transfer .ensures))
+    let refused = c .before in
+    let k = refused .before .before .before in
+    call-refused _ (k .before .pre) _ _ _ _ _ (told transferCase _ _ _ _ (refused .answer .given .1) (k .transfer .ensures))
 
 pub transfer-line-spec : {M : Type 1} → statement M
 transfer-line-spec = tie.close (tie.spec transfer-requires enum-told enum-known-answer returns returns-2)

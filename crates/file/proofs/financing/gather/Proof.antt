@@ -1,7 +1,8 @@
 -- The loop's invariant: with the holders and shares so far, the load from here on is the one that was asked.
-use Prim.Native.Nat.{_-_}
+use Prim.Native.Nat.{ℕ, _-_}
 use native.Mathlib.Omega.{arith}
 use mathlib.Core.Path.{refl, sym, ap, _∙_}
+use mathlib.Core.List.{List}
 use borrow.Author.Needs.{needs}
 use borrow.Author.Tests.{eqb-true, eqb-false}
 use lib.ListN.{length}
@@ -18,6 +19,17 @@ Inv-loop file start before holders₀ shares₀ count₀ at₀ lines₀ holders 
 
 abbrev μ-loop : tie.MeasureT-loop
 μ-loop file start before holders₀ shares₀ count₀ at₀ lines₀ holders shares count at lines = length file - at
+
+-- The way back to a turn's beginning, from each place by the one before it
+abbrev by-letter : tie.After-shared-slice-known2 Inv-loop μ-loop → tie.At-loop Inv-loop μ-loop
+by-letter c = c .before .before
+
+abbrev by-read : tie.After-read-from Inv-loop μ-loop → tie.At-loop Inv-loop μ-loop
+by-read c = by-letter (c .before .before)
+
+-- the file, at a turn's beginning
+abbrev file : tie.At-loop Inv-loop μ-loop → List ℕ
+file turn = turn .before .before .args .file .now
 
 loop-holds : tie.Need-loop-holds Inv-loop μ-loop
 loop-holds c =
@@ -49,8 +61,9 @@ add-t19 c = omega arith
 returns : tie.Need-returns Inv-loop μ-loop
 returns c =
     let read = c .before .before in
-    let s = read .before .before .before .before .before .before .args .file .now in
-    let l = read .before .before .before .before .loop in
+    let turn = by-read read in
+    let s = file turn in
+    let l = turn .loop in
     gathering-stops s _ _ _ _ _ _ _ (l .inv) _
     (financing-malformed s (l .at) (l .lines) _ _ (omega arith) (eqb-true _ _ (read .before .if1 .taken))
     (sym (ap readStated (c .enum-told .given .1)) ∙ read .read-from .ensures .0))
@@ -62,8 +75,9 @@ returns-2 : tie.Need-returns-2 Inv-loop μ-loop
 returns-2 c =
     let line = c .before .before in
     let read = line .before .before in
-    let s = read .before .before .before .before .before .before .args .file .now in
-    let l = read .before .before .before .before .loop in
+    let turn = by-read read in
+    let s = file turn in
+    let l = turn .loop in
     gathering-stops s _ _ _ _ _ _ _ (l .inv) _
     (financing-full s (l .at) (l .lines) _ _ (omega arith) (eqb-true _ _ (read .before .if1 .taken)) _
     (sym (ap readStated (line .line .given .1)) ∙ read .read-from .ensures .0)
@@ -92,32 +106,37 @@ add-lines c = omega arith
 
 loop-less : tie.Need-loop-less Inv-loop μ-loop
 loop-less c =
-    let read = c .before .before .before .before .before in
-    let s = read .before .before .before .before .before .before .args .file .now in
-    let l = read .before .before .before .before .loop in
+    let line = c .before .before .before in
+    let read = line .before .before in
+    let turn = by-read read in
+    let s = file turn in
+    let l = turn .loop in
     omega (arith, read .read-from .ensures .1, end-past s (l .at) (omega arith))
 
 loop-again : tie.Need-loop-again Inv-loop μ-loop
 loop-again c =
     let line = c .before .before .before in
     let read = line .before .before in
-    let s = read .before .before .before .before .before .before .args .file .now in
-    let l = read .before .before .before .before .loop in
+    let turn = by-read read in
+    let s = file turn in
+    let l = turn .loop in
     rw (c .share-of .ensures, read .read-from .ensures .1)
     (gathering-goes-on s _ _ _ _ _ _ _ (l .inv) _ (omega arith) (eqb-true _ _ (read .before .if1 .taken))
     (sym (ap readStated (line .line .given .1)) ∙ read .read-from .ensures .0) (omega arith))
 
 returns-3 : tie.Need-returns-3 Inv-loop μ-loop
 returns-3 c =
-    let s = c .before .before .before .before .before .args .file .now in
-    let l = c .before .before .before .loop in
+    let turn = by-letter (c .before) in
+    let s = file turn in
+    let l = turn .loop in
     gathering-stops s _ _ _ _ _ _ _ (l .inv) _
     (λ kept b line first term annual cents. load-opens s (l .at) (l .lines) kept b _ (λ _. eqb-false _ _ (c .if1 .left)))
 
 returns-4 : tie.Need-returns-4 Inv-loop μ-loop
 returns-4 c =
-    let s = c .before .before .before .args .file .now in
-    let l = c .before .loop in
+    let turn = c .before in
+    let s = file turn in
+    let l = turn .loop in
     gathering-stops s _ _ _ _ _ _ _ (l .inv) _
     (λ kept b line first term annual cents. load-opens s (l .at) (l .lines) kept b _ (λ more _. absurd (omega arith)))
 

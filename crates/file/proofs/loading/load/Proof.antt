@@ -54,6 +54,9 @@ Inv-loop file book turn₀ turn = Left file book turn
 abbrev μ-loop : tie.MeasureT-loop
 μ-loop file book turn₀ turn = length file - turn .at
 
+abbrev start : tie.At-loop Inv-loop μ-loop → tie.Start Inv-loop μ-loop
+start c = c .before .before .before
+
 refused-requires : tie.Need-refused-requires Inv-loop μ-loop
 refused-requires c κs = search needs
 
@@ -80,18 +83,22 @@ read-from-requires c κs = search needs
 abbrev Read : Type 0
 Read = tie.After-read-from Inv-loop μ-loop
 
+-- where its turn begins
+abbrev beginning : Read → tie.At-loop Inv-loop μ-loop
+beginning r = r .before .before .before
+
 abbrev file : Read → List ℕ
-file r = r .before .before .before .before .before .before .args .file .now
+file r = start (beginning r) .args .file .now
 
 abbrev before : Read → Book
-before r = r .before .before .before .before .before .before .args .book
+before r = start (beginning r) .args .book
 
 -- the turn before it
 abbrev last : Read → Turn
-last r = r .before .before .before .loop .turn
+last r = beginning r .loop .turn
 
 abbrev left : (r : Read) → Left (file r) (before r) (last r)
-left r = r .before .before .before .loop .inv
+left r = beginning r .loop .inv
 
 more : (r : Read) → last r .at < length (file r)
 more r = r .before .if2 .taken
@@ -126,21 +133,25 @@ returns-2 c =
     (left r .same
     ∙ turn-malformed (file r) (last r .at) (last r .lines) (last r .book) (more r) _ (r .read-from .ensures .1) _ (read-as r _ (c .before .enum-told .given .1)))
 
+-- back from its letter
+abbrev by-letter : tie.After-known-told Inv-loop μ-loop → Read
+by-letter c = c .before .before .before
+
 advance-line-requires : tie.Need-advance-line-requires Inv-loop μ-loop
-advance-line-requires c κs = left (c .before .before .before .before) .reached
+advance-line-requires c κs = left (by-letter (c .before)) .reached
 
 rate-line-requires : tie.Need-rate-line-requires Inv-loop μ-loop
-rate-line-requires c κs = left (c .before .before .before .before) .reached
+rate-line-requires c κs = left (by-letter (c .before)) .reached
 
 transfer-line-requires : tie.Need-transfer-line-requires Inv-loop μ-loop
-transfer-line-requires c κs = left (c .before .before .before .before) .reached
+transfer-line-requires c κs = left (by-letter (c .before)) .reached
 
 settle-line-requires : tie.Need-settle-line-requires Inv-loop μ-loop
-settle-line-requires c κs = left (c .before .before .before .before) .reached
+settle-line-requires c κs = left (by-letter (c .before)) .reached
 
 other-turn-requires : tie.Need-other-turn-requires Inv-loop μ-loop
 other-turn-requires c κs =
-    let r = c .before .before .before .before in
+    let r = by-letter (c .before) in
     let other = c .match2 .rest in
     (left r .reached, (inside r, omega (arith, past r, left r .counted), order-no-call _ (other .0 .0 .0 .1) (other .0 .0 .1) (other .0 .1) (other .1)))
 
@@ -150,7 +161,7 @@ abbrev Made : Type 0
 Made = tie.At-match2-came Inv-loop μ-loop
 
 abbrev read : Made → Read
-read c = c .before .before .before .before
+read c = by-letter (c .before)
 
 abbrev Turned : Read → Turn → Type 0
 Turned r t = (Turns (file r) (last r .book) None (last r .at) (last r .lines) t) × (last r .at < t .at)
@@ -189,10 +200,11 @@ concluded-requires c κs = search needs
 
 returns-3 : tie.Need-returns-3 Inv-loop μ-loop
 returns-3 c =
-    let m = c .before .before .before .before in
+    let next = c .before .before in
+    let m = next .before .before in
     let r = read m in
     c .concluded .ensures
-    ∙ sym (left r .same ∙ turned m .0 .same (before r) ∙ ap (went-on m) (c .before .before .next .given .1))
+    ∙ sym (left r .same ∙ turned m .0 .same (before r) ∙ ap (went-on m) (next .next .given .1))
 
 enum-told-2 : tie.Need-enum-told-2 Inv-loop μ-loop
 enum-told-2 c = search needs
@@ -220,8 +232,9 @@ refused-requires-3 c κs = search needs
 
 returns-4 : tie.Need-returns-4 Inv-loop μ-loop
 returns-4 c =
-    let l = c .before .before .before .before .loop in
-    let p = c .before .before .before .before .before .before .before in
+    let tested = c .before .before .before in
+    let l = tested .before .loop in
+    let p = start (tested .before) in
     c .refused3 .ensures
     ∙ sym (l .inv .same ∙ load-end (p .args .file .now) (l .turn .at) (l .turn .lines) (p .args .book) (l .turn .book) (omega arith))
 

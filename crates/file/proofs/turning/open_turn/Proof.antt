@@ -12,6 +12,13 @@ use Rattle.file.proofs.turning.open_turn.Lts as lts
 use Rattle.book.proofs.open_book.Reads as open-book-reads
 use Rattle.file.proofs.financing.gather.Reads as gather-reads
 
+-- The way back to the gathered lines, from each place by the one before it
+abbrev by-shares : tie.After-shares → tie.After-gather
+by-shares c = c .before .before
+
+abbrev by-next : tie.After-struct-known → tie.After-gather
+by-next c = by-shares (c .before .before .before)
+
 gather-requires : tie.Need-gather-requires
 gather-requires c κs = search needs
 
@@ -28,13 +35,13 @@ array-share-prefix-holders : tie.Need-array-share-prefix-holders
 array-share-prefix-holders c = search needs
 
 slice-aggregate-open-book : tie.Need-slice-aggregate-open-book
-slice-aggregate-open-book c = sym (length-take-le _ _ (omega (arith, c .before .before .before .before .before .before .gather .ensures .few, c .before .before .before .before .before .before .gather .ensures .holders-full)))
+slice-aggregate-open-book c = let e = by-next (c .before) .gather .ensures in sym (length-take-le _ _ (omega (arith, e .few, e .holders-full)))
 
 array-share-prefix-shares : tie.Need-array-share-prefix-shares
 array-share-prefix-shares c = search needs
 
 slice-aggregate-open-book-2 : tie.Need-slice-aggregate-open-book-2
-slice-aggregate-open-book-2 c = sym (length-take-le _ _ (omega (arith, c .before .before .before .before .before .before .before .gather .ensures .few, c .before .before .before .before .before .before .before .gather .ensures .shares-full)))
+slice-aggregate-open-book-2 c = let e = by-next (c .before .before) .gather .ensures in sym (length-take-le _ _ (omega (arith, e .few, e .shares-full)))
 
 open-book-requires : tie.Need-open-book-requires
 open-book-requires c κs = search needs
@@ -47,11 +54,12 @@ enum-known-answer c = search needs
 
 returns : tie.Need-returns
 returns c =
-    let g = c .before .before .before .before .before in
+    let stopped = c .before in
+    let g = by-shares (stopped .before .before) in
     let p = g .before .before in
     let e = g .gather .ensures in
     record {
-      same = λ before. gather-stops (p .args .file .now) before (p .args .book) (p .args .lines) (p .args .f) (p .args .at) (g .gather .result) e _ (c .before .next .given .1);
+      same = λ before. gather-stops (p .args .file .now) before (p .args .book) (p .args .lines) (p .args .f) (p .args .at) (g .gather .result) e _ (stopped .next .given .1);
       reached = p .pre .0;
       ahead = e .ahead;
       within = e .within;
@@ -61,13 +69,14 @@ returns c =
 returns-2 : tie.Need-returns-2
 returns-2 c =
     let o = c .before .before .before in
-    let g = o .before .before .before .before .before .before .before .before in
+    let next = o .before .before .before in
+    let g = by-next next in
     let p = g .before .before in
     let e = g .gather .ensures in
     record {
       same = λ before.
           opens-accepted (p .args .file .now) before (p .args .book) (p .args .lines) (p .args .f) (p .args .at) (g .gather .result) e
-          (o .before .before .before .before .enum-told .given .1) (o .open-book .result) (o .open-book .ensures) (c .enum-told2 .given .1);
+          (next .before .enum-told .given .1) (o .open-book .result) (o .open-book .ensures) (c .enum-told2 .given .1);
       reached = open-reached (p .args .book) (p .pre .0) _ _ _ _ _ _ (o .open-book .result) (o .open-book .ensures);
       ahead = e .ahead;
       within = e .within;
@@ -76,14 +85,16 @@ returns-2 c =
 
 returns-3 : tie.Need-returns-3
 returns-3 c =
-    let o = c .before .before .before .before in
-    let g = o .before .before .before .before .before .before .before .before in
+    let refused = c .before in
+    let o = refused .before .before .before in
+    let next = o .before .before .before in
+    let g = by-next next in
     let p = g .before .before in
     let e = g .gather .ensures in
     record {
       same = λ before.
           opens-refused (p .args .file .now) before (p .args .book) (p .args .lines) (p .args .f) (p .args .at) (g .gather .result) e
-          (o .before .before .before .before .enum-told .given .1) (o .open-book .result) (o .open-book .ensures) _ (c .before .answer .given .1);
+          (next .before .enum-told .given .1) (o .open-book .result) (o .open-book .ensures) _ (refused .answer .given .1);
       reached = open-reached (p .args .book) (p .pre .0) _ _ _ _ _ _ (o .open-book .result) (o .open-book .ensures);
       ahead = e .ahead;
       within = e .within;

@@ -10,6 +10,13 @@ use Rattle.file.proofs.turning.other_turn.Lts as lts
 use Rattle.file.proofs.turning.ending.Reads as ending-reads
 use Rattle.file.proofs.turning.open_turn.Reads as open-turn-reads
 
+-- The way back to the start, from each test of the letter by the one before it
+abbrev by-opening : tie.After-struct-known → tie.Start
+by-opening c = c .before .before
+
+abbrev by-end : tie.After-struct-known2 → tie.Start
+by-end c = by-opening (c .before .before)
+
 add-open-turn : tie.Need-add-open-turn
 add-open-turn c = search needs
 
@@ -18,7 +25,7 @@ open-turn-requires c κs = search needs
 
 returns : tie.Need-returns
 returns c =
-    let p = c .before .before .before .before in
+    let p = by-opening (c .before .before) in
     let o = c .open-turn .ensures in
     record {
       same = λ before. line-opening before (p .args .book) (p .args .lines) (p .args .f) _ _ (c .before .if1 .taken) ∙ o .same before;
@@ -36,7 +43,7 @@ add-t9 c = search needs
 
 returns-2 : tie.Need-returns-2
 returns-2 c =
-    let p = c .before .before .before .before .before .before in
+    let p = by-end (c .before .before) in
     record {
       same = λ before.
           line-end before (p .args .book) (p .args .lines) (p .args .f) _ _ (c .before .if2 .taken)
@@ -55,7 +62,7 @@ add-t16 c = search needs
 
 returns-3 : tie.Need-returns-3
 returns-3 c =
-    let p = c .before .before .before .before .before in
+    let p = by-end (c .before) in
     record {
       same = λ before.
           line-unplaced before (p .args .book) (p .args .lines) (p .args .f) _ _ (c .before .before .if1 .left) (c .if2 .left) (p .pre .1 .2);

@@ -5,7 +5,7 @@ use Prim.Native.Nat.{_<_}
 use lib.ListN.{length, length-set}
 use lib.Seq.{sets}
 use Rattle.line.specs.Field.{padded}
-use Rattle.line.proofs.Stores.{padded-down, justified-down}
+use Rattle.line.proofs.NumberStores.{padded-down, justified-down}
 use Rattle.line.proofs.field.write_number.Statement.{statement}
 use Rattle.line.proofs.field.write_number.Tie as tie
 

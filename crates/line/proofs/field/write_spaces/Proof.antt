@@ -5,7 +5,7 @@ use Prim.Native.Nat.{_≤_}
 use lib.ListN.{length, length-set}
 use lib.Seq.{sets}
 use Rattle.line.specs.Field.{padded}
-use Rattle.line.proofs.Stores.{padded-down}
+use Rattle.line.proofs.NumberStores.{padded-down}
 use Rattle.line.proofs.field.write_spaces.Statement.{statement}
 use Rattle.line.proofs.field.write_spaces.Tie as tie
 

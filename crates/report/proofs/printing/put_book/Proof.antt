@@ -8,6 +8,10 @@ use Rattle.report.proofs.StatementPut.{totals-printed, refusal-prints-n
 use Rattle.report.proofs.printing.put_book.Statement.{statement}
 use Rattle.report.proofs.printing.put_book.Tie as tie
 
+-- back to the totals, from where the positions are to be put
+abbrev by-totals : tie.After-put-positions-arg → tie.After-put-totals
+by-totals c = c .before .before .before
+
 totals-requires : tie.Need-totals-requires
 totals-requires c κs = search needs
 
@@ -19,7 +23,7 @@ put-totals-requires c κs = search needs
 
 put-positions-requires : tie.Need-put-positions-requires
 put-positions-requires c κs =
-    let put = c .before .before .before in
+    let put = by-totals c in
     let known = put .before .before .before in
     let asked = known .before .before in
     let p = asked .before .before in (
@@ -36,7 +40,7 @@ same-length c = search needs
 returns : tie.Need-returns
 returns c =
     let positions = c .before .before in
-    let put = positions .before .before .before .before in
+    let put = by-totals (positions .before) in
     let known = put .before .before .before in
     let asked = known .before .before in
     let b = asked .before .before .args .book in

@@ -14,16 +14,16 @@ use Rattle.report.proofs.printing.put_position.Tie as tie
 -- The places of the numbers before the last
 
 abbrev unit-days : tie.After-put-number4 → tie.After-put-number3
-unit-days c = c .before .before .before .before
+unit-days c = let buffer = c .before .before in buffer .before .before
 
 abbrev share : tie.After-put-number4 → tie.After-put-number2
-share c = unit-days c .before .before .before .before
+share c = let buffer = unit-days c .before .before in buffer .before .before
 
 abbrev holder : tie.After-put-number4 → tie.After-put-number
-holder c = share c .before .before .before .before
+holder c = let buffer = share c .before .before in buffer .before .before
 
 abbrev start : tie.After-put-number4 → tie.Start
-start c = holder c .before .before .before .before
+start c = let buffer = holder c .before .before in buffer .before .before
 
 -- all but the line feed
 put : (c : tie.After-put-number4)

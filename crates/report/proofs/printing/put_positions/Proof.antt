@@ -13,6 +13,16 @@ Inv-loop out₀ book place₀ at₀ out place at = LinesPut out₀ (held book) o
 abbrev μ-loop : tie.MeasureT-loop
 μ-loop out₀ book place₀ at₀ out place at = 64 - place
 
+-- The way back to a turn's beginning, from each place by the one before it
+abbrev by-asked : tie.After-position-at Inv-loop μ-loop → tie.At-loop Inv-loop μ-loop
+by-asked c = c .before .before
+
+abbrev by-position : tie.After-known-told Inv-loop μ-loop → tie.After-position-at Inv-loop μ-loop
+by-position c = c .before .before .before
+
+abbrev by-put : tie.After-put-position Inv-loop μ-loop → tie.After-position-at Inv-loop μ-loop
+by-put c = by-position (c .before .before)
+
 loop-holds : tie.Need-loop-holds Inv-loop μ-loop
 loop-holds c = none-put (c .before .args .out .now) (held (c .before .args .book))
 
@@ -24,7 +34,7 @@ enum-known-position c = search needs
 
 put-position-requires : tie.Need-put-position-requires Inv-loop μ-loop
 put-position-requires c κs =
-    let l = c .before .before .before .before .before .before in
+    let l = by-asked (by-position (c .before)) in
     let p = l .before .before in
     omega (arith, l .loop .inv .behind, length-stays _ _ _ _ _ (l .loop .inv), p .pre .1)
 
@@ -32,12 +42,12 @@ enum-told : tie.Need-enum-told Inv-loop μ-loop
 enum-told c = search needs
 
 same-length : tie.Need-same-length Inv-loop μ-loop
-same-length c = length-stays _ _ _ _ _ (c .before .before .before .before .loop .inv)
+same-length c = length-stays _ _ _ _ _ (by-asked (c .before .before) .loop .inv)
 
 returns : tie.Need-returns Inv-loop μ-loop
 returns c =
     let asked = c .before .before in
-    let l = asked .before .before in
+    let l = by-asked asked in
     let p = l .before .before in
     all-put _ _ _ _ _ (l .loop .inv)
     (none-placed (p .args .book) (p .pre .0 .0) (p .pre .0 .1) (l .loop .place) (asked .position-at .result) (asked .position-at .ensures) _
@@ -47,7 +57,7 @@ add-place : tie.Need-add-place Inv-loop μ-loop
 add-place c = omega arith
 
 add-at : tie.Need-add-at Inv-loop μ-loop
-add-at c = omega (arith, c .before .before .before .before .before .before .before .before .before .loop .inv .behind)
+add-at c = omega (arith, by-asked (by-put (c .before .before)) .loop .inv .behind)
 
 loop-less : tie.Need-loop-less Inv-loop μ-loop
 loop-less c = omega arith
@@ -55,8 +65,8 @@ loop-less c = omega arith
 loop-again : tie.Need-loop-again Inv-loop μ-loop
 loop-again c =
     let put = c .before .before in
-    let asked = put .before .before .before .before .before in
-    let l = asked .before .before in
+    let asked = by-put put in
+    let l = by-asked asked in
     let p = l .before .before in
     let next =
     placed (p .args .book) (p .pre .0 .0) (p .pre .0 .1) (l .loop .place) (asked .position-at .result) (asked .position-at .ensures) _ _

@@ -12,7 +12,7 @@ use Rattle.report.proofs.printing.put_refusal.Statement.{statement}
 use Rattle.report.proofs.printing.put_refusal.Tie as tie
 
 abbrev before-line : tie.After-put-number2 → tie.After-put-number
-before-line c = c .before .before .before .before
+before-line c = let buffer = c .before .before in buffer .before .before
 
 abbrev start : tie.After-put-number2 → tie.Start
 start c = before-line c .before .before .before

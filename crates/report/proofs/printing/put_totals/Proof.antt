@@ -14,19 +14,19 @@ use Rattle.report.proofs.printing.put_totals.Tie as tie
 -- The places of the numbers before the last
 
 abbrev principal-paid : tie.After-put-number6 → tie.After-put-number5
-principal-paid c = c .before .before .before .before
+principal-paid c = let buffer = c .before .before in buffer .before .before
 
 abbrev fraction : tie.After-put-number6 → tie.After-put-number4
-fraction c = principal-paid c .before .before .before .before
+fraction c = let buffer = principal-paid c .before .before in buffer .before .before
 
 abbrev due : tie.After-put-number6 → tie.After-put-number3
-due c = fraction c .before .before .before .before
+due c = let buffer = fraction c .before .before in buffer .before .before
 
 abbrev outstanding : tie.After-put-number6 → tie.After-put-number2
-outstanding c = due c .before .before .before .before
+outstanding c = let buffer = due c .before .before in buffer .before .before
 
 abbrev today : tie.After-put-number6 → tie.After-put-number
-today c = outstanding c .before .before .before .before
+today c = let buffer = outstanding c .before .before in buffer .before .before
 
 abbrev start : tie.After-put-number6 → tie.Start
 start c = today c .before .before .before

@@ -17,14 +17,25 @@ use Rattle.report.proofs.printing.report.Tie as tie
 
 -- The load was on the empty book
 
+-- the buffer is long enough
+abbrev enough : tie.After-load → tie.Else1
+enough c = c .before .before
+
 abbrev start : tie.After-load → tie.Start
-start c = c .before .before .before .before .before
+start c = enough c .before .before .before
 
 loaded : (c : tie.After-load) → loadStated (c .load .result) ≡ loadOf emptyBook (start c .args .file .now)
 loaded c = c .load .ensures ∙ ap (λ (b : Book). loadOf b (start c .args .file .now)) (c .before .empty .ensures)
 
 reached : (c : tie.After-load) → Reached (c .load .result .book)
 reached c = load-reached emptyBook (start c .args .file .now) empty (c .load .result) (loaded c)
+
+-- The way back to the load, from each of its answers
+abbrev by-accepted : tie.After-enum-told → tie.After-load
+by-accepted c = c .before .before .before
+
+abbrev by-refused : tie.After-answer → tie.After-load
+by-refused c = c .before .before .before
 
 returns : tie.Need-returns
 returns c = let p = c .before .before .before in short-reported (p .args .file .now) (p .args .out .now) (c .if1 .taken)
@@ -39,7 +50,7 @@ enum-told : tie.Need-enum-told
 enum-told c = search needs
 
 put-book-requires : tie.Need-put-book-requires
-put-book-requires c κs = let l = c .before .before .before .before in (reached l, l .before .before .if1 .left)
+put-book-requires c κs = let l = by-accepted (c .before) in (reached l, enough l .if1 .left)
 
 enum-known-answer : tie.Need-enum-known-answer
 enum-known-answer c = search needs
@@ -57,9 +68,9 @@ returns-2 : tie.Need-returns-2
 returns-2 c =
     let put = c .before .before in
     let told = put .before .before in
-    let l = told .before .before .before in
+    let l = by-accepted told in
     let a = start l .args in
-    statement-reported (a .file .now) (a .out .now) _ _ _ (l .before .before .if1 .left) (reached-fits _ (reached l))
+    statement-reported (a .file .now) (a .out .now) _ _ _ (enough l .if1 .left) (reached-fits _ (reached l))
     (accepted-printed (a .file .now) (l .load .result) (loaded l) _ (told .enum-told .given .1)) (put .put-book .ensures .0)
     (put .put-book .ensures .1)
 
@@ -69,14 +80,15 @@ same-length-2 c = search needs
 returns-3 : tie.Need-returns-3
 returns-3 c =
     let put = c .before .before in
-    let told = put .before .before .before .before in
-    let l = told .before .before .before in
+    let number = put .before in
+    let told = number .before .before .before in
+    let l = by-refused told in
     let a = start l .args in
     let line = told .answer .given .0 .1 .0 in
     let fourteen = refusal-length (refusalNumber (told .answer .given .0 .0)) line in
-    statement-reported (a .file .now) (a .out .now) _ _ 14 (l .before .before .if1 .left) (omega arith)
+    statement-reported (a .file .now) (a .out .now) _ _ 14 (enough l .if1 .left) (omega arith)
     (refused-printed (a .file .now) (l .load .result) (loaded l) _ _ (told .answer .given .1)) (sym fourteen)
-    (put .put-refusal .ensures ∙ ap (λ (n : ℕ). sets (a .out .now) 0 (refusalLine n line)) (put .before .number .ensures))
+    (put .put-refusal .ensures ∙ ap (λ (n : ℕ). sets (a .out .now) 0 (refusalLine n line)) (number .number .ensures))
 
 pub report-spec : {M : Type 1} → statement M
 report-spec =
