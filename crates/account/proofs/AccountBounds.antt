@@ -4,6 +4,7 @@ use mathlib.Core.Path.{_≡_, refl}
 use mathlib.Core.Bool.{false}
 use mathlib.Core.List.{List}
 use mathlib.Core.Option.{Option, none, some}
+use Rattle.rates.specs.Rate.{greatestDaily}
 use Rattle.account.specs.declared.Account.{Account}
 use Rattle.account.specs.declared.Settlement.{Settlement}
 use Rattle.account.specs.Accrual.{worth}
@@ -16,7 +17,7 @@ paid-bounded : (n : ℕ) (p : Option ℕ) (a : Account) → ((m : ℕ) → p ≡
 paid-bounded n none a within h = h
 paid-bounded n (some m) a within h = bounded-paid n m a (within m refl) h
 
-module _ (cents : ℕ) (daily : ℕ → ℕ) (ss : List Settlement) (small : cents ≤ 1000000000000) (most : (t : ℕ) → daily t ≤ 1074597)
+module _ (cents : ℕ) (daily : ℕ → ℕ) (ss : List Settlement) (small : cents ≤ 1000000000000) (most : (t : ℕ) → daily t ≤ greatestDaily)
     (not-over : overpaid cents daily ss ≡ false) where
   within : (t m : ℕ) → settledOn ss t ≡ some m → m ≤ worth (dayBegins cents daily (settledOn ss) t)
   within = within-worth cents daily ss not-over

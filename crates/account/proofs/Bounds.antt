@@ -1,4 +1,4 @@
--- The figures of an account stay within bounds: at most 107,459,701 cents of interest a day, and no principal but the first.
+-- The figures of an account stay within bounds: at most `dayInterest` and a cent of interest a day, and no principal but the first.
 use Prim.Native.Nat.{ℕ, zero, suc, _+_, _-_, _*_, _≤_}
 use native.Mathlib.Omega.{arith}
 use native.Mathlib.Nat.{mul-le-mul, min-le-right, add-zero, add-suc}
@@ -7,6 +7,7 @@ use mathlib.Core.Bool.{cond}
 use mathlib.Core.List.{List, [], _∷_}
 use lib.Dec.{leb}
 use Rattle.general_laws.proofs.Choice.{choice}
+use Rattle.rates.specs.Rate.{greatestDaily}
 use Rattle.account.specs.declared.Account.{Account}
 use Rattle.account.specs.declared.RateOrder.{RateOrder}
 use Rattle.account.specs.Accrual.{accruedDay, accruedDays, paidOff, worth}
@@ -35,21 +36,21 @@ fits n a le h =
       interest-paid = omega (arith, h .interest);
     }
 
-pub product-bound : (d : ℕ) (a : Account) → d ≤ 1074597 → a .outstanding .0 ≤ 1000000000000 → a .outstanding .0 * d ≤ 1000000000000 * 1074597
+pub product-bound : (d : ℕ) (a : Account) → d ≤ greatestDaily → a .outstanding .0 ≤ 1000000000000 → a .outstanding .0 * d ≤ 1000000000000 * greatestDaily
 product-bound d a low le = mul-le-mul le low
 
-pub bounded-day : (n d : ℕ) (a : Account) → d ≤ 1074597 → Bounded n a → Bounded (suc n) (accruedDay d a)
+pub bounded-day : (n d : ℕ) (a : Account) → d ≤ greatestDaily → Bounded n a → Bounded (suc n) (accruedDay d a)
 unfolding accruedDay
 bounded-day n d a low h =
     let g = product-bound d a low (omega (arith, h .principal)) in
     record { principal = h .principal; below = omega arith; interest = omega arith }
 
-pub bounded-days : (n k d : ℕ) (a : Account) → d ≤ 1074597 → Bounded n a → Bounded (n + k) (accruedDays k d a)
+pub bounded-days : (n k d : ℕ) (a : Account) → d ≤ greatestDaily → Bounded n a → Bounded (n + k) (accruedDays k d a)
 unfolding accruedDays
 bounded-days n zero d a low h = rw (add-zero n) h
 bounded-days n (suc k) d a low h = rw (add-suc n k) (bounded-day (n + k) d _ low (bounded-days n k d a low h))
 
-pub bounded-elapsed : (daily : ℕ → ℕ) (from k : ℕ) (a : Account) → ((t : ℕ) → daily t ≤ 1074597) → Bounded from a → Bounded (from + k) (elapsed daily from k a)
+pub bounded-elapsed : (daily : ℕ → ℕ) (from k : ℕ) (a : Account) → ((t : ℕ) → daily t ≤ greatestDaily) → Bounded from a → Bounded (from + k) (elapsed daily from k a)
 unfolding elapsed
 bounded-elapsed daily from zero a low h = rw (add-zero from) h
 bounded-elapsed daily from (suc k) a low h =
@@ -82,14 +83,14 @@ paid-principal-kept m a le = let x = min-le-right m (a .due .0) in omega arith
 
 -- Rates in force are among the stored ones
 
-in-force-moderate : (daily : ℕ) (orders : List RateOrder) (day : ℕ) → daily ≤ 1074597 → Moderate orders → inForce (λ (o : RateOrder). o .daily) daily orders day ≤ 1074597
+in-force-moderate : (daily : ℕ) (orders : List RateOrder) (day : ℕ) → daily ≤ greatestDaily → Moderate orders → inForce (λ (o : RateOrder). o .daily) daily orders day ≤ greatestDaily
 unfolding inForce
 in-force-moderate daily [] day le p = le
 in-force-moderate daily (o ∷ orders) day le p =
     in-force-moderate (cond (leb (o .first .0) day) (o .daily) daily) orders day
-    (choice (λ (n : ℕ). n ≤ 1074597) (leb (o .first .0) day) (λ _. p .0) (λ _. le)) (p .1)
+    (choice (λ (n : ℕ). n ≤ greatestDaily) (leb (o .first .0) day) (λ _. p .0) (λ _. le)) (p .1)
 
-pub stored-most : (orders : List RateOrder) → Moderate orders → (day : ℕ) → storedOn orders day ≤ 1074597
+pub stored-most : (orders : List RateOrder) → Moderate orders → (day : ℕ) → storedOn orders day ≤ greatestDaily
 stored-most orders p day = in-force-moderate 0 orders day (omega arith) p
 
 -- the account of a later day is bounded by that day

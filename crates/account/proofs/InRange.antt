@@ -5,6 +5,7 @@ use mathlib.Core.Path.{_≡_, refl, sym, _∙_}
 use mathlib.Core.Bool.{Bool, true, false, cond}
 use mathlib.Core.List.{List}
 use lib.ListN.{take}
+use Rattle.rates.specs.Rate.{greatestDaily}
 use Rattle.account.specs.declared.Account.{Account}
 use Rattle.account.specs.declared.RateOrder.{RateOrder}
 use Rattle.account.specs.declared.Reckoned.{Reckoned}
@@ -29,7 +30,7 @@ not-out : {A : Type 0} (a : Account) → OutOfRange ≡ Standing a → A
 not-out a e = let z : _≡_ {A = ℕ} 0 1 = cc in absurd (omega arith)
 
 module _ (a : Account) (h : Fits a) where
-  module _ (d n : ℕ) (low : d ≤ 1074597) (few : n ≤ 6000) (r : Reckoned) (e : r ≡ accrued a d n) where
+  module _ (d n : ℕ) (low : d ≤ greatestDaily) (few : n ≤ 6000) (r : Reckoned) (e : r ≡ accrued a d n) where
     told : r ≡ Standing (accruedDays n d a)
     told = e ∙ sym (accrues a d n (fits-account a h) low few)
 

@@ -9,6 +9,7 @@ use lib.Dec.{ltb, eqb}
 use lib.ListN.{length, take, drop, getD}
 use Rattle.general_laws.proofs.Choice.{both-true, by-test}
 use Rattle.general_laws.proofs.Fronts.{remains, none-remains}
+use Rattle.rates.specs.Rate.{greatestDaily}
 use Rattle.account.specs.declared.Account.{Account}
 use Rattle.account.specs.declared.RateOrder.{RateOrder}
 use Rattle.account.specs.declared.Settlement.{Settlement}
@@ -70,13 +71,13 @@ rising-told : (day : ℕ) (os : List RateOrder) → Moderate os → Rising day o
 unfolding isRising
 rising-told day [] m r = refl
 rising-told day (o ∷ os) m r =
-    rw (lt-ltb day (o .first .0) (r .0), le-leb (o .daily) 1074597 (m .0)) (rising-told (o .first .0) os (m .1) (r .1))
+    rw (lt-ltb day (o .first .0) (r .0), le-leb (o .daily) greatestDaily (m .0)) (rising-told (o .first .0) os (m .1) (r .1))
 
 pub schedule-told : (os : List RateOrder) → Moderate os → FromStart os → isSchedule os ≡ true
 unfolding isSchedule
 schedule-told [] m h = absurd h
 schedule-told (o ∷ os) m h =
-    rw (eq-eqb (o .first .0) 0 (h .0), le-leb (o .daily) 1074597 (m .0)) (rising-told (o .first .0) os (m .1) (h .1))
+    rw (eq-eqb (o .first .0) 0 (h .0), le-leb (o .daily) greatestDaily (m .0)) (rising-told (o .first .0) os (m .1) (h .1))
 
 -- settlements in order
 

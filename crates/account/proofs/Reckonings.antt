@@ -6,6 +6,7 @@ use mathlib.Core.List.{List}
 use borrow.Author.Tests.{lt-ltb, le-ltb}
 use lib.ListN.{take}
 use Rattle.general_laws.proofs.Choice.{by-test}
+use Rattle.rates.specs.Rate.{greatestDaily}
 use Rattle.account.specs.declared.Account.{Account}
 use Rattle.account.specs.declared.RateOrder.{RateOrder}
 use Rattle.account.specs.declared.Reckoned.{Reckoned}
@@ -23,18 +24,18 @@ module _ (a : Account) where
     no-account e = rw e
 
     module _ (is : isAccount a ≡ true) where
-      pub high-rate : 1074597 < d → OutOfRange ≡ accrued a d n
+      pub high-rate : greatestDaily < d → OutOfRange ≡ accrued a d n
       unfolding accrued
-      high-rate h = rw (is, lt-ltb 1074597 d h)
+      high-rate h = rw (is, lt-ltb greatestDaily d h)
 
-      module _ (low : d ≤ 1074597) where
+      module _ (low : d ≤ greatestDaily) where
         pub many-days : 6000 < n → OutOfRange ≡ accrued a d n
         unfolding accrued
-        many-days h = rw (is, le-ltb 1074597 d low, lt-ltb 6000 n h)
+        many-days h = rw (is, le-ltb greatestDaily d low, lt-ltb 6000 n h)
 
         pub accrues : n ≤ 6000 → Standing (accruedDays n d a) ≡ accrued a d n
         unfolding accrued
-        accrues h = rw (is, le-ltb 1074597 d low, le-ltb 6000 n h)
+        accrues h = rw (is, le-ltb greatestDaily d low, le-ltb 6000 n h)
 
   module _ (m : ℕ) where
     pub no-account-paid : isAccount a ≡ false → OutOfRange ≡ paid a m

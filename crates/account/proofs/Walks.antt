@@ -8,6 +8,7 @@ use borrow.Author.Tests.{ltb-true, leb-true}
 use lib.Dec.{ltb}
 use lib.ListN.{length, take, getD}
 use Rattle.general_laws.proofs.Choice.{both-true, by-test, true-not-false}
+use Rattle.rates.specs.Rate.{greatestDaily}
 use Rattle.account.specs.declared.Account.{Account}
 use Rattle.account.specs.declared.RateOrder.{RateOrder}
 use Rattle.account.specs.declared.accrual.Elapsed.{Elapsed}
@@ -21,7 +22,7 @@ use Rattle.account.proofs.Bounds.{bounded-days}
 use Rattle.account.proofs.RangeTests.{schedule-says, next-wrong, next-right}
 use Rattle.account.proofs.Segments.{Holding, segment}
 
-pub bounded-to : (day end d : ℕ) (a : Account) → d ≤ 1074597 → day ≤ end → Bounded day a → Bounded end (accruedDays (end - day) d a)
+pub bounded-to : (day end d : ℕ) (a : Account) → d ≤ greatestDaily → day ≤ end → Bounded day a → Bounded end (accruedDays (end - day) d a)
 bounded-to day end d a low le h =
     let at : day + (end - day) ≡ end = omega arith in
     subst (λ (n : ℕ). Bounded n (accruedDays (end - day) d a)) at (bounded-days day (end - day) d a low h)

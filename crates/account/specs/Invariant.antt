@@ -2,10 +2,10 @@
 use Prim.Native.Nat.{ℕ, _+_, _*_, _≤_, _<_}
 use mathlib.Core.Path.{_≡_}
 use mathlib.Core.List.{List, [], _∷_}
+use Rattle.rates.specs.Rate.{greatestDaily}
 use Rattle.account.specs.declared.Account.{Account}
 use Rattle.account.specs.declared.RateOrder.{RateOrder}
 use Rattle.account.specs.declared.Settlement.{Settlement}
-use Rattle.account.specs.Ranges.{greatestDaily}
 
 -- figures that the arithmetic of one step fits
 pub record Fits (a : Account) : Type 0 where
@@ -15,11 +15,15 @@ pub record Fits (a : Account) : Type 0 where
   pub principal-paid : a .«principal_paid» .0 ≤ 1000000000000
   pub interest-paid : a .«interest_paid» .0 ≤ 1000000000000
 
--- the figures of an account after at most n days; no day brings more interest than 10^12 × 1,074,597 / 10^10 and a cent
+-- the most interest of a day, in whole cents: that of 10^12 cents at the greatest daily rate
+abbrev pub dayInterest : ℕ
+dayInterest = 100 * greatestDaily
+
+-- the figures of an account after at most n days; a day brings its interest, and at most a cent from the fraction
 pub record Bounded (n : ℕ) (a : Account) : Type 0 where
   pub principal : a .outstanding .0 + a .«principal_paid» .0 ≤ 1000000000000
   pub below : a .fraction < 10000000000
-  pub interest : a .due .0 + a .«interest_paid» .0 ≤ n * 107459701
+  pub interest : a .due .0 + a .«interest_paid» .0 ≤ n * (dayInterest + 1)
 
 -- no daily rate is over that of 4 percent
 abbrev pub Moderate : List RateOrder → Type 0

@@ -3,6 +3,7 @@ use Prim.Native.Nat.{ℕ}
 use mathlib.Core.Bool.{Bool, true, false, _&&_}
 use mathlib.Core.List.{List, [], _∷_}
 use lib.Dec.{leb, ltb, eqb}
+use Rattle.rates.specs.Rate.{greatestDaily}
 use Rattle.account.specs.declared.Account.{Account}
 use Rattle.account.specs.declared.RateOrder.{RateOrder}
 use Rattle.account.specs.declared.Settlement.{Settlement}
@@ -14,10 +15,6 @@ isAccount a =
     && (leb (a .due .0) 1000000000000
     && (ltb (a .fraction) 10000000000
     && (leb (a .«principal_paid» .0) 1000000000000 && leb (a .«interest_paid» .0) 1000000000000)))
-
--- the daily rate of 4 percent
-abbrev pub greatestDaily : ℕ
-greatestDaily = 1074597
 
 -- an order that holds from day 0, its daily rate at most that of 4 percent
 abbrev pub isFirst : RateOrder → Bool

@@ -4,13 +4,14 @@ use mathlib.Core.Bool.{cond, not}
 use mathlib.Core.List.{List}
 use lib.Dec.{ltb}
 use lib.ListN.{take}
+use Rattle.rates.specs.Rate.{greatestDaily}
 use Rattle.account.specs.declared.Account.{Account}
 use Rattle.account.specs.declared.RateOrder.{RateOrder}
 use Rattle.account.specs.declared.Reckoned.{Reckoned}
 use Rattle.account.specs.declared.Reckoned.the-variants.{Standing, Overpaid, OutOfRange}
 use Rattle.account.specs.declared.Settlement.{Settlement}
 use Rattle.account.specs.Accrual.{accruedDays, paidOff, worth}
-use Rattle.account.specs.Ranges.{greatestDaily, isAccount, isSchedule, isTimely}
+use Rattle.account.specs.Ranges.{isAccount, isSchedule, isTimely}
 use Rattle.account.specs.Schedule.{storedOn}
 use Rattle.account.specs.Standing.{accountAt, overpaid}
 

@@ -4,13 +4,14 @@ use mathlib.Core.Path.{_≡_}
 use mathlib.Core.Bool.{true, false}
 use mathlib.Core.List.{List}
 use lib.ListN.{take, drop, getD}
+use Rattle.rates.specs.Rate.{greatestDaily}
 use Rattle.account.specs.declared.Account.{Account}
 use Rattle.account.specs.declared.RateOrder.{RateOrder}
 use Rattle.account.specs.declared.accrual.Elapsed.{Elapsed}
 use Rattle.account.specs.Accrual.{accruedDay}
 use Rattle.account.specs.Invariant.{Bounded}
 use Rattle.account.specs.Opening.{noOrder}
-use Rattle.account.specs.Ranges.{greatestDaily, isNext, isRising, isSchedule}
+use Rattle.account.specs.Ranges.{isNext, isRising, isSchedule}
 use Rattle.account.specs.Schedule.{storedOn}
 
 -- so many days from a day on, each at its own daily rate, without a settlement

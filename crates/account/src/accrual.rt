@@ -2,6 +2,7 @@
 ghost use mathlib.Core.Path.{_≡_};
 ghost use mathlib.Core.Bool.{true};
 ghost use Prim.Native.Nat.{_-_, _≤_};
+ghost use Rattle.rates.specs.Rate.{greatestDaily};
 ghost use Rattle.account.specs.Accrual.{accruedDays};
 ghost use Rattle.account.specs.Reckoning.{accrued};
 ghost use Rattle.account.specs.Invariant.{Fits, Bounded};
@@ -16,7 +17,7 @@ use crate::ranges::is_next;
 // So many days at one daily rate, at once: outstanding × d is q × 10^10 + r, so due grows by days × q, and fraction + days × r carries.
 pub fn accrue_days(account: Account, daily: u64, days: Day) -> Account
     requires { ⌜ Fits account ⌝ }
-    requires { ⌜ (daily ≤ 1074597) × (days .0 ≤ 6000) ⌝ }
+    requires { ⌜ (daily ≤ greatestDaily) × (days .0 ≤ 6000) ⌝ }
     ensures { λ r. ⌜ r ≡ accruedDays (days .0) daily account ⌝ }
 {
     let one = account.outstanding.0 * daily;
@@ -57,7 +58,7 @@ pub struct Elapsed {
 // The days from `from` up to `end`, all at the order at place `at`.
 pub fn hold(account: Account, order: RateOrder, at: usize, from: Day, end: Day) -> Elapsed
     requires { ⌜ Bounded (from .0) account ⌝ }
-    requires { ⌜ (from .0 ≤ end .0) × (end .0 ≤ 6000) × (order .daily ≤ 1074597) ⌝ }
+    requires { ⌜ (from .0 ≤ end .0) × (end .0 ≤ 6000) × (order .daily ≤ greatestDaily) ⌝ }
     ensures { λ r. ⌜ r .account ≡ accruedDays (end .0 - from .0) (order .daily) account ⌝ }
     ensures { λ r. ⌜ (r .at ≡ at) × (r .ordered ≡ true) ⌝ }
 {

@@ -49,7 +49,7 @@ impl Account {
     // The most cents of each figure, the greatest daily rate, and the last day.
     pub const CENTS: u64 = 1000000000000;
 
-    pub const DAILY: u64 = 1074597;
+    pub const DAILY: u64 = rates::GREATEST_DAILY;
 
     pub const DAYS: u32 = 6000;
 }

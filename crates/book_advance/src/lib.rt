@@ -1,6 +1,7 @@
 // Advance (document 01): days pass, positions gain unit-days and interest accrues.
 ghost use mathlib.Core.Path.{_≡_};
 ghost use Rattle.general_laws.specs.Sums.{total};
+ghost use Rattle.rates.specs.Rate.{greatestDaily};
 ghost use Rattle.account.specs.Accrual.{accruedDays};
 ghost use Rattle.account.specs.Invariant.{Fits};
 ghost use mathlib.Core.Bool.{true};
@@ -28,7 +29,7 @@ use calendar::DayCount;
 // What a reached book asks of its account is never out of range.
 fn accrue(account: Account, daily: u64, days: Day) -> Account
     requires { ⌜ Fits account ⌝ }
-    requires { ⌜ (daily ≤ 1074597) × (days .0 ≤ 6000) ⌝ }
+    requires { ⌜ (daily ≤ greatestDaily) × (days .0 ≤ 6000) ⌝ }
     ensures { λ r. ⌜ r ≡ accruedDays (days .0) daily account ⌝ }
 {
     match account::accrue(account, daily, days) {

@@ -7,7 +7,7 @@ use mathlib.Core.List.{List, [], _∷_, _++_}
 use lib.Dec.{leb}
 use lib.ListN.{length, take, getD}
 use Rattle.rates.proofs.Callers.{greatest, only}
-use Rattle.rates.specs.Rate.{within, dailyOf}
+use Rattle.rates.specs.Rate.{within, dailyOf, greatestDaily}
 use Rattle.account.specs.declared.Account.{Account}
 use Rattle.account.specs.declared.RateOrder.{RateOrder}
 use Rattle.account.specs.Accrual.{accruedDays}
@@ -45,9 +45,9 @@ pub moderate : (os : List RateOrder) → Priced os → Moderate os
 moderate [] p = tt
 moderate (o ∷ os) p = (rw (p .1) (greatest (o .annual) (p .0)), moderate os (p .2))
 
-pub daily-most : (orders : List RateOrder) → Priced orders → (day : ℕ) → dailyOn orders day ≤ 1074597
+pub daily-most : (orders : List RateOrder) → Priced orders → (day : ℕ) → dailyOn orders day ≤ greatestDaily
 daily-most orders p day =
-    subst (λ (daily : ℕ → ℕ). daily day ≤ 1074597) (stored-is-daily orders p) (stored-most orders (moderate orders p) day)
+    subst (λ (daily : ℕ → ℕ). daily day ≤ greatestDaily) (stored-is-daily orders p) (stored-most orders (moderate orders p) day)
 
 -- From today on the last holds
 
@@ -77,7 +77,7 @@ last-elapses n rs today k a p h begun room =
     ∙ ap (λ (daily : ℕ → ℕ). elapsed daily today k a) (stored-is-daily (take n rs) p)
 
 -- an order that is stored has a daily rate
-pub priced-at : (n : ℕ) (rs : List RateOrder) (at : ℕ) → Priced (take n rs) → n ≤ length rs → at < n → getD rs at noOrder .daily ≤ 1074597
+pub priced-at : (n : ℕ) (rs : List RateOrder) (at : ℕ) → Priced (take n rs) → n ≤ length rs → at < n → getD rs at noOrder .daily ≤ greatestDaily
 priced-at zero rs at p room lt = absurd (omega arith)
 priced-at (suc n) [] at p room lt = absurd (omega arith)
 priced-at (suc n) (o ∷ rs) zero p room lt = rw (p .1) (greatest (o .annual) (p .0))

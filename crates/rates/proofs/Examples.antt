@@ -3,7 +3,7 @@ use mathlib.Core.Path.{_≡_, refl, sym, _∙_, ap}
 use Prim.Native.Nat.{ℕ, suc, _≤_}
 use lib.Dec.{lit≤, lit<}
 use mathlib.Core.Bool.{true, false}
-use Rattle.rates.specs.Rate.{within, rateOf}
+use Rattle.rates.specs.Rate.{within, rateOf, greatestDaily}
 use Rattle.rates.specs.Examples.{Examples}
 use Rattle.rates.proofs.Rule.{only}
 use Rattle.rates.proofs.Answers.{accepted, refused}
@@ -18,6 +18,6 @@ examples =
       rate-0 = found 0 0 (lit≤ tt) refl refl;
       rate-1 = found 1 273 (lit≤ tt) refl refl;
       rate-2000 = found 2000 542552 (lit≤ tt) refl refl;
-      rate-4000 = found 4000 1074597 (lit≤ tt) refl refl;
+      rate-4000 = found 4000 greatestDaily (lit≤ tt) refl refl;
       rate-4001 = refused 4001 (lit< tt);
     }

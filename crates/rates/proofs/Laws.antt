@@ -2,17 +2,17 @@
 use mathlib.Core.Path.{_≡_, refl, sym}
 use Prim.Native.Nat.{ℕ, _≤_}
 use native.Mathlib.Nat.{le-trans, le-of-eq}
-use Rattle.rates.specs.Rate.{within, dailyOf}
+use Rattle.rates.specs.Rate.{within, dailyOf, greatestDaily}
 use Rattle.rates.specs.Laws.{Laws}
 use Rattle.rates.proofs.Rule.{meets, most, only, grows}
 use Rattle.rates.proofs.Rising.{rises}
 
-last : dailyOf 4000 ≡ 1074597
+last : dailyOf 4000 ≡ greatestDaily
 unfolding within
-last = sym (only 4000 1074597 refl refl)
+last = sym (only 4000 greatestDaily refl refl)
 
-pub greatest : (i : ℕ) → i ≤ 4000 → dailyOf i ≤ 1074597
+pub greatest : (i : ℕ) → i ≤ 4000 → dailyOf i ≤ greatestDaily
 greatest i h = le-trans (grows i 4000 h) (le-of-eq last)
 
 pub laws : Laws
-laws = record { meets = meets; largest = most; only = only; grows = grows; rises = rises; greatest = greatest }
+laws = record { meets = meets; largest = most; only = only; grows = grows; rises = rises; last = last; greatest = greatest }

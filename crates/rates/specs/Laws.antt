@@ -2,7 +2,7 @@
 use mathlib.Core.Path.{_≡_}
 use mathlib.Core.Bool.{true, false}
 use Prim.Native.Nat.{ℕ, suc, _≤_, _<_}
-use Rattle.rates.specs.Rate.{within, dailyOf}
+use Rattle.rates.specs.Rate.{within, dailyOf, greatestDaily}
 
 pub record Laws : Type 0 where
   -- it meets the rule's bound
@@ -15,4 +15,5 @@ pub record Laws : Type 0 where
   pub grows : (i j : ℕ) → i ≤ j → dailyOf i ≤ dailyOf j
   pub rises : (i j : ℕ) → i < j → j ≤ 4000 → dailyOf i < dailyOf j
   -- no daily rate is greater than that of 4,000
-  pub greatest : (i : ℕ) → i ≤ 4000 → dailyOf i ≤ 1074597
+  pub last : dailyOf 4000 ≡ greatestDaily
+  pub greatest : (i : ℕ) → i ≤ 4000 → dailyOf i ≤ greatestDaily

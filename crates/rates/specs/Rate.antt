@@ -27,6 +27,10 @@ largest test (suc n) = cond (test (suc n)) (suc n) (largest test n)
 unfoldable pub dailyOf : ℕ → ℕ
 dailyOf i = largest (within i) (limit i)
 
+-- d of 4,000, the greatest
+abbrev pub greatestDaily : ℕ
+greatestDaily = 1074597
+
 -- 6, "rate: over 4,000"
 abbrev pub rateNumber : ℕ
 rateNumber = 6

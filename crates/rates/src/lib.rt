@@ -10,6 +10,9 @@ use crate::table::DAILY;
 // The greatest annual rate, in thousandths of a percent.
 pub const GREATEST: u64 = 4000;
 
+// The daily rate of it, in units of 1/10^10.
+pub const GREATEST_DAILY: u64 = 1074597;
+
 // The number of a rate over it.
 pub const OVER: u32 = 6;
 

@@ -11,6 +11,7 @@ use Rattle.book_model.specs.declared.Book.{Book}
 use Rattle.book_model.specs.declared.Position.{Position}
 use Rattle.book_model.specs.Book.{emptyBook, held}
 use Rattle.account.specs.Opening.{opening}
+use Rattle.account.specs.Invariant.{dayInterest}
 use Rattle.general_laws.specs.Members.{all}
 use Rattle.book_model.specs.Outcome.{noPosition}
 use Rattle.book_model.specs.Positions.{isHolder, holders}
@@ -41,7 +42,7 @@ no-totals-fit =
 
 open-totals-fit : (b : Book) → OpenSound b → TotalsFit (b .account)
 open-totals-fit b s =
-    let interest : b .account .due .0 + b .account .«interest_paid» .0 ≤ 6000 * 107459701 =
+    let interest : b .account .due .0 + b .account .«interest_paid» .0 ≤ 6000 * (dayInterest + 1) =
     omega (arith, s .bounded .interest, s .within-term, s .term-most) in
     record {
       outstanding = omega (arith, s .bounded .principal);

@@ -5,6 +5,7 @@ use native.Mathlib.Omega.{arith}
 use mathlib.Core.Path.{_≡_, refl, sym, ap, ap₂, _∙_}
 use mathlib.Core.List.{List, _++_, map}
 use lib.ListN.{length, drop, getD, length-map}
+use Rattle.rates.specs.Rate.{greatestDaily}
 use Rattle.account.specs.declared.Account.{Account}
 use Rattle.book_model.specs.declared.AdvanceAnswer.{AdvanceAnswer}
 use Rattle.book_model.specs.declared.AdvanceAnswer.the-variants as advance-answer
@@ -143,7 +144,7 @@ module _ (c : tie.After-known-told) where
   some-order =
       last-order (start .args .book .rated) (start .args .book .rates) (start .args .book .today .0) (open-known .from-start) (open-known .begun) orders-fit .0
 
-  last-daily : getD (start .args .book .rates) (start .args .book .rated - 1) noOrder .daily ≤ 1074597
+  last-daily : getD (start .args .book .rates) (start .args .book .rated - 1) noOrder .daily ≤ greatestDaily
   last-daily =
       priced-at (start .args .book .rated) (start .args .book .rates) (start .args .book .rated - 1) (open-known .priced) orders-fit
       (omega (arith, some-order))

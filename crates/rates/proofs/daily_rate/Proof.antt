@@ -4,6 +4,7 @@ use native.Mathlib.Omega.{arith}
 use mathlib.Core.Path.{sym, _∙_, ap}
 use Prim.Native.Nat.{ℕ, _≤_}
 use lib.ListN.{getD}
+use Rattle.rates.specs.Rate.{greatestDaily}
 use Rattle.rates.proofs.DailyRates.{dailyRates}
 use Rattle.rates.proofs.Entries.{entry}
 use Rattle.rates.proofs.Laws.{greatest}
@@ -11,7 +12,7 @@ use Rattle.rates.proofs.Answers.{accepted, refused}
 use Rattle.rates.proofs.daily_rate.Statement.{statement}
 use Rattle.rates.proofs.daily_rate.Tie as tie
 
-entry-small : (k : ℕ) → k ≤ 4000 → getD dailyRates k 0 ≤ 1074597
+entry-small : (k : ℕ) → k ≤ 4000 → getD dailyRates k 0 ≤ greatestDaily
 entry-small k h = rw (entry k (omega arith)) (greatest k h)
 
 returns : tie.Need-returns

@@ -3,27 +3,28 @@ use Prim.Native.Nat.{ℕ, _*_, _/_, _%_, _≤_}
 use native.Mathlib.Omega.{arith}
 use native.Mathlib.Nat.{mul-le-mul}
 use borrow.Author.Needs.{needs}
+use Rattle.rates.specs.Rate.{greatestDaily}
 use Rattle.account.specs.declared.Account.{Account}
-use Rattle.account.specs.Invariant.{Fits}
+use Rattle.account.specs.Invariant.{Fits, dayInterest}
 use Rattle.account.proofs.Bounds.{product-bound}
 use Rattle.account.proofs.ClosedForm.{closed-form}
 use Rattle.account.proofs.accrual.accrue_days.Statement.{statement}
 use Rattle.account.proofs.accrual.accrue_days.Tie as tie
 
 -- the code's products fit
-whole-bound : (k d : ℕ) (a : Account) → k ≤ 6000 → d ≤ 1074597 → Fits a → k * (a .outstanding .0 * d / 10000000000) ≤ 6000 * 107459700
+whole-bound : (k d : ℕ) (a : Account) → k ≤ 6000 → d ≤ greatestDaily → Fits a → k * (a .outstanding .0 * d / 10000000000) ≤ 6000 * dayInterest
 whole-bound k d a few low h =
     let g = product-bound d a low (h .principal) in
-    let q : a .outstanding .0 * d / 10000000000 ≤ 107459700 = omega arith in
+    let q : a .outstanding .0 * d / 10000000000 ≤ dayInterest = omega arith in
     mul-le-mul few q
 
 rest-bound : (k p : ℕ) → k ≤ 6000 → k * (p % 10000000000) ≤ 6000 * 10000000000
 rest-bound k p few = let r : p % 10000000000 ≤ 10000000000 = omega arith in mul-le-mul few r
 
-one : (s : tie.Start) → s .args .account .outstanding .0 * s .args .daily ≤ 1000000000000 * 1074597
+one : (s : tie.Start) → s .args .account .outstanding .0 * s .args .daily ≤ 1000000000000 * greatestDaily
 one s = product-bound (s .args .daily) (s .args .account) (s .pre .1 .0) (s .pre .0 .principal)
 
-whole : (s : tie.Start) → s .args .days .0 * (s .args .account .outstanding .0 * s .args .daily / 10000000000) ≤ 6000 * 107459700
+whole : (s : tie.Start) → s .args .days .0 * (s .args .account .outstanding .0 * s .args .daily / 10000000000) ≤ 6000 * dayInterest
 whole s = whole-bound (s .args .days .0) (s .args .daily) (s .args .account) (s .pre .1 .1) (s .pre .1 .0) (s .pre .0)
 
 rest : (s : tie.Start) → s .args .days .0 * (s .args .account .outstanding .0 * s .args .daily % 10000000000) ≤ 6000 * 10000000000
