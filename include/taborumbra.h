@@ -77,7 +77,7 @@ uint32_t taborumbra_read_line(const uint8_t *line, size_t line_bytes, uint8_t *l
  * 21: an unknown letter, a field too wide, an unused field not 0, or a shorter buffer; out is as it was. */
 uint32_t taborumbra_write_line(uint8_t letter, uint32_t date, uint32_t first, uint32_t second, uint64_t third, uint8_t *out, size_t out_bytes);
 
-/* The daily rate, in units of 1/10^10, of an annual rate in thousandths of a percent.
+/* The daily rate, to the nearest unit of 1/10^10, of an annual rate in thousandths of a percent.
  * 0: the rate. 6: annual is over 4,000, and daily is 0. */
 uint32_t taborumbra_daily_rate(uint64_t annual, uint64_t *daily);
 

@@ -1,4 +1,4 @@
-/* Calls the six functions of include/taborumbra.h from C. What is expected is written from document 01 and the header.
+/* Calls the six functions of include/taborumbra.h from C. What is expected is written from documents 01 and 02 and the header.
  *
  * tools/examples builds and runs it. It prints a line for each check that failed, and last the counts. */
 #include <stdio.h>
@@ -179,7 +179,10 @@ int main(void)
     try_plus_days(20140101, 5479, 0, 20290101);
     try_plus_days(20140230, 1, TABORUMBRA_DATE, 0);
     try_plus_days(21991231, 1, TABORUMBRA_DATE, 0);
+    try_daily_rate(0, 0, 0);
+    try_daily_rate(1, 0, 274);
     try_daily_rate(2000, 0, 542552);
+    try_daily_rate(4000, 0, 1074598);
     try_daily_rate(4001, TABORUMBRA_RATE, 0);
     try_daily_rate(4294969296, TABORUMBRA_RATE, 0); /* 2^32 + 2,000 */
     for (size_t place = 0; place < sizeof lines / sizeof lines[0]; place++)

@@ -6,8 +6,8 @@ use mathlib.Core.Bool.{Bool, true, false, cond}
 use mathlib.Core.List.{List, [], _∷_, _++_}
 use lib.Dec.{leb}
 use lib.ListN.{length, take, getD}
-use Rattle.rates.proofs.Callers.{greatest, only}
-use Rattle.rates.specs.Rate.{within, dailyOf, greatestDaily}
+use Rattle.rates.proofs.Callers.{greatest, none-at-0}
+use Rattle.rates.specs.Rate.{dailyOf, greatestDaily}
 use Rattle.account.specs.declared.Account.{Account}
 use Rattle.account.specs.declared.RateOrder.{RateOrder}
 use Rattle.account.specs.Accrual.{accruedDays}
@@ -32,10 +32,6 @@ daily-of-annual annual (o ∷ os) t p =
     chosen : (b : Bool) → cond b (o .daily) (dailyOf annual) ≡ dailyOf (cond b (o .annual) annual)
     chosen true = p .1
     chosen false = refl
-
-none-at-0 : dailyOf 0 ≡ 0
-unfolding within
-none-at-0 = sym (only 0 0 refl refl)
 
 pub stored-is-daily : (os : List RateOrder) → Priced os → storedOn os ≡ dailyOn os
 stored-is-daily os p =

@@ -3,7 +3,7 @@ use mathlib.Core.Path.{_≡_, refl, sym, ap, _∙_}
 use mathlib.Core.List.{[], _∷_}
 use lib.IntN.{pos, negℤ}
 use Rattle.general_laws.specs.Sums.{sumBelow, countBelow}
-use Rattle.rates.proofs.Callers.{only}
+use Rattle.rates.proofs.Callers.{none-at-0, only}
 use Rattle.calendar.specs.Calendar.{after, daysOfYears, dayCount}
 use Rattle.apportionment.specs.Apportionment.{totalWeight, quotient, remainder, leftover, comesBefore, rank, getsExtra, part}
 use Rattle.rates.specs.Rate.{within, dailyOf}
@@ -27,10 +27,6 @@ use Rattle.conservation.specs.Examples.{Examples, Edges, ownBook, figure
 use Rattle.conservation.proofs.SteadyDays.{daysAt, days-steady}
 use Rattle.calendar.proofs.Callers as calendar
 use Rattle.rates.proofs.Callers as rates
-
-at-0 : dailyOf 0 ≡ 0
-unfolding within
-at-0 = sym (only 0 0 refl refl)
 
 at-2000 : dailyOf 2000 ≡ 542552
 unfolding within
@@ -85,12 +81,12 @@ day-later = days-steady 2000 542552 at-2000 (ownBook 1000000000 []) refl 1
 regularised : changesAt0 (bookAfter dayLater (Settle 100000)) ≡ changes (negℤ (pos 54255)) (pos 0)
 unfolding run opened isFinancing newBook emptyBook opening dayCount daysOfYears withHeld withAccount withToday accruedDay inForce lastDay
     settled settledBook withSettlement paidOff rated ratedFrom revised startingBefore withRates settledOn dayBegins accountAt overpaid
-regularised = rw (changesAt0, at-0)
+regularised = rw (changesAt0, none-at-0)
 
 overpaid-at-0 : changesAt0 (bookAfter dayLater (Settle 1000054255)) ≡ declined noChanges refusal.Overpaid
 unfolding run opened isFinancing newBook emptyBook opening dayCount daysOfYears withHeld withAccount withToday accruedDay inForce lastDay
     settled settledBook withSettlement paidOff rated ratedFrom revised startingBefore withRates settledOn dayBegins accountAt overpaid
-overpaid-at-0 = rw (changesAt0, at-0)
+overpaid-at-0 = rw (changesAt0, none-at-0)
 
 pub examples : Examples
 unfolding run opened isFinancing newBook emptyBook opening

@@ -1,4 +1,5 @@
--- The twelve checked examples of document 01 as one fact, and its line of edges, about the definitions that the contracts cite.
+-- The twelve checked examples of document 01 as one fact, two of them as document 02 changes them, and its line of edges, about the definitions that the
+-- contracts cite.
 use Prim.Native.Nat.{ℕ}
 use mathlib.Core.Path.{_≡_}
 use mathlib.Core.Bool.{true, false}
@@ -72,12 +73,12 @@ fileBook = ownBook 100 (Advance 20140111 ∷ Transfer 1 2 500000 ∷ Advance 201
 pub record Examples : Type 0 where
   -- "i = 0, d = 0."
   pub example-1-rate-0 : rateOf 0 ≡ (0, 0)
-  -- "i = 1, d = 273."
-  pub example-2-rate-1 : rateOf 1 ≡ (0, 273)
+  -- "the examples for 1 and 4,000 become 274 and 1,074,598" (document 02, Req 02)
+  pub example-2-rate-1 : rateOf 1 ≡ (0, 274)
   -- "i = 2,000, d = 542,552."
   pub example-3-rate-2000 : rateOf 2000 ≡ (0, 542552)
-  -- "i = 4,000, d = 1,074,597; 4,001 is refused."
-  pub example-4-rate-4000 : (rateOf 4000 ≡ (0, 1074597)) × (rateOf 4001 ≡ (rateNumber, 0))
+  -- "1,074,598", as above; "4,001 is refused."
+  pub example-4-rate-4000 : (rateOf 4000 ≡ (0, 1074598)) × (rateOf 4001 ≡ (rateNumber, 0))
   -- "354,054,743,000 cents at 2,000: one day gives due 19,209,310, fraction 8,924,136,000."
   pub example-5-one-day : ownBook 354054743000 (nextDay ∷ []) .account ≡ figures 354054743000 19209310 8924136000 0 0
   -- "Shares 350,100, 60,800, 441,600, 10,000, 137,500, one day, M = 100: 35, 6, 44, 1, 14."

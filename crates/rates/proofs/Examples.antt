@@ -16,7 +16,7 @@ unfolding within
 examples =
     record {
       rate-0 = found 0 0 (lit≤ tt) refl refl;
-      rate-1 = found 1 273 (lit≤ tt) refl refl;
+      rate-1 = found 1 274 (lit≤ tt) refl refl;
       rate-2000 = found 2000 542552 (lit≤ tt) refl refl;
       rate-4000 = found 4000 greatestDaily (lit≤ tt) refl refl;
       rate-4001 = refused 4001 (lit< tt);

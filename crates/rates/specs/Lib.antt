@@ -1,4 +1,5 @@
 -- The definitions that the contracts cite, and the laws about them.
 pub mod Rate
+pub mod Exact
 pub mod Laws
 pub mod Examples

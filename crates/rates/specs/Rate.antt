@@ -1,18 +1,19 @@
--- The daily rate of an annual rate (document 01, "Daily rate"): "For an annual rate i from 0 to 4,000 the daily rate d counts units of
--- 1/10^10 and is the largest whole number with (10^10 + d)^365 ≤ (100,000 + i) × 10^3645."
+-- The daily rate of an annual rate (document 01, "Daily rate", and document 02, Req 02): "For an annual rate i from 0 to 4,000 the daily rate d
+-- counts units of 1/10^10"; "A daily rate becomes the largest d with (2 × 10^10 + 2d − 1)^365 ≤ 2^365 × (100,000 + i) × 10^3645, for i above 0;
+-- for i = 0 it stays 0."
 use mathlib.Core.Bool.{Bool, cond}
-use Prim.Native.Nat.{ℕ, zero, suc, _+_, _*_, _^_}
-use lib.Dec.{leb}
+use Prim.Native.Nat.{ℕ, zero, suc, _+_, _-_, _*_, _^_}
+use lib.Dec.{eqb, leb}
 use Rattle.rates.specs.declared.DailyRate.{DailyRate}
 use Rattle.rates.specs.declared.DailyRate.the-variants.{Daily, Refused}
 
--- (10^10 + d)^365
+-- (2 × 10^10 + 2d − 1)^365
 abbrev pub growth : ℕ → ℕ
-growth d = (10 ^ 10 + d) ^ 365
+growth d = (2 * 10 ^ 10 + 2 * d - 1) ^ 365
 
--- (100,000 + i) × 10^3645
+-- 2^365 × (100,000 + i) × 10^3645
 abbrev pub limit : ℕ → ℕ
-limit i = (100000 + i) * 10 ^ 3645
+limit i = 2 ^ 365 * (100000 + i) * 10 ^ 3645
 
 -- d is no more than the annual rate i allows
 unfoldable pub within : ℕ → ℕ → Bool
@@ -25,11 +26,11 @@ largest test (suc n) = cond (test (suc n)) (suc n) (largest test n)
 
 -- d; no number beyond limit i passes the test
 unfoldable pub dailyOf : ℕ → ℕ
-dailyOf i = largest (within i) (limit i)
+dailyOf i = cond (eqb i 0) 0 (largest (within i) (limit i))
 
 -- d of 4,000, the greatest
 abbrev pub greatestDaily : ℕ
-greatestDaily = 1074597
+greatestDaily = 1074598
 
 -- 6, "rate: over 4,000"
 abbrev pub rateNumber : ℕ

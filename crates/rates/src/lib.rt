@@ -1,4 +1,4 @@
-// The daily rate of an annual rate (document 01, "Daily rate"), from a table whose rule is proved of every entry.
+// The daily rate of an annual rate (document 01, "Daily rate"; document 02, Req 02), from a table whose rule is proved of every entry.
 mod table;
 
 ghost use mathlib.Core.Path.{_≡_};
@@ -11,7 +11,7 @@ use crate::table::DAILY;
 pub const GREATEST: u64 = 4000;
 
 // The daily rate of it, in units of 1/10^10.
-pub const GREATEST_DAILY: u64 = 1074597;
+pub const GREATEST_DAILY: u64 = 1074598;
 
 // The number of a rate over it.
 pub const OVER: u32 = 6;

@@ -14,26 +14,34 @@ impl Natural {
         Natural { digits: vec![1] }
     }
 
-    /// The schoolbook product, digit by digit.
     pub fn times(&self, factor: u64) -> Self {
-        let mut digits = Vec::with_capacity(self.digits.len() + 1);
-        let mut carry = 0;
-        for &digit in &self.digits {
-            // At most (2^64 - 1)^2 + (2^64 - 1), which is below 2^128.
-            let product = u128::from(digit) * u128::from(factor) + carry;
-            digits.push(product as u64); // the low 64 bits
-            carry = product >> 64;
-        }
-        digits.push(carry as u64);
-        while digits.last() == Some(&0) {
-            digits.pop();
-        }
-        Natural { digits }
+        let mut product = self.clone();
+        product.multiply(factor);
+        product
     }
 
     /// One, multiplied by the base as often as the exponent says.
     pub fn power(base: u64, exponent: u32) -> Self {
-        (0..exponent).fold(Natural::one(), |product, _| product.times(base))
+        let mut product = Natural::one();
+        for _ in 0..exponent {
+            product.multiply(base);
+        }
+        product
+    }
+
+    /// The schoolbook product, digit by digit.
+    fn multiply(&mut self, factor: u64) {
+        let mut carry = 0;
+        for digit in &mut self.digits {
+            // At most (2^64 - 1)^2 + (2^64 - 1), which is below 2^128.
+            let product = u128::from(*digit) * u128::from(factor) + carry;
+            *digit = product as u64; // the low 64 bits
+            carry = product >> 64;
+        }
+        self.digits.push(carry as u64);
+        while self.digits.last() == Some(&0) {
+            self.digits.pop();
+        }
     }
 }
 

@@ -376,7 +376,7 @@ impl Account {
     fn accrue(&mut self, daily: u64) {
         let interest = u128::from(self.outstanding.0) * u128::from(daily);
         let sum = u128::from(self.fraction) + interest;
-        self.due.0 += (sum / UNITS) as u64; // at most 107,459,701
+        self.due.0 += (sum / UNITS) as u64; // at most 107,459,800
         self.fraction = (sum % UNITS) as u64; // below 10^10
     }
 
@@ -589,7 +589,7 @@ mod tests {
 
     #[test]
     fn a_rate_reaches_back_over_the_payments_made() {
-        // 10^9 cents at d = 1,074,597: 107,459.7 cents on each of two days.
+        // 10^9 cents at d = 1,074,598: 107,459.8 cents on each of two days.
         let mut book = opened(0, 1_000_000_000, &[1_000_000]);
         book.advance(day(1)).unwrap();
         book.settle(Cents(50_000)).unwrap();
@@ -603,7 +603,7 @@ mod tests {
         assert_eq!(book.rate(day(0), 4_000), Ok(change));
         let totals = book.totals().unwrap();
         assert_eq!(totals.outstanding, Cents(999_964_919));
-        assert_eq!(totals.fraction, 4_000_000_000);
+        assert_eq!(totals.fraction, 6_000_000_000);
         assert_eq!(totals.interest_paid, Cents(214_919));
         assert_eq!(totals.principal_paid, Cents(35_081));
     }
@@ -621,9 +621,9 @@ mod tests {
         assert_eq!(book.rate(day(20), 4_000), Ok(change));
         assert_eq!(book.totals(), totals);
         book.advance(day(21)).unwrap();
-        // 20 × 54,255.2 - 5,000 and then a day at the new rate: 107,459.7
+        // 20 × 54,255.2 - 5,000 and then a day at the new rate: 107,459.8
         assert_eq!(book.totals().unwrap().due, Cents(1_187_563));
-        assert_eq!(book.totals().unwrap().fraction, 7_000_000_000);
+        assert_eq!(book.totals().unwrap().fraction, 8_000_000_000);
     }
 
     #[test]

@@ -1044,7 +1044,7 @@ fn lives_at_random(cases: &mut Cases) {
     /// With it the lives are not too long, and 3, 6, 8, 12 and 14 of Rate occur.
     const SEED: u64 = 396;
     let lives = [
-        (Temper::Mixed, 60),
+        (Temper::Mixed, 30),
         (Temper::Revised, 90),
         (Temper::Mixed, 60),
         (Temper::Crowded, 30),

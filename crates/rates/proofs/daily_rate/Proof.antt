@@ -18,6 +18,13 @@ entry-small k h = rw (entry k (omega arith)) (greatest k h)
 returns : tie.Need-returns
 returns c = sym (refused (c .before .args .annual) (omega arith))
 
+-- the entry that is read
+returns-2 : tie.Need-returns-2
+unfolding dailyRates
+returns-2 c =
+    let i = c .before .args .annual in
+    ap (λ (d : ℕ). (0, d)) (entry i (search needs)) ∙ sym (accepted i (omega arith))
+
 mul-daily : tie.Need-mul-daily
 mul-daily c = search needs
 
@@ -27,12 +34,6 @@ array-read-daily c = search needs
 cast-t10 : tie.Need-cast-t10
 unfolding dailyRates
 cast-t10 c = record { fits = omega (arith, entry-small (c .before .args .annual) (omega arith)) }
-
-returns-2 : tie.Need-returns-2
-unfolding dailyRates
-returns-2 c =
-    let i = c .before .args .annual in
-    ap (λ (d : ℕ). (0, d)) (entry i (search needs)) ∙ sym (accepted i (omega arith))
 
 pub daily-rate-spec : {M : Type 1} → statement M
 daily-rate-spec = tie.close (tie.spec returns mul-daily array-read-daily cast-t10 returns-2)

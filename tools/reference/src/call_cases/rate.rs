@@ -1,7 +1,7 @@
 //! The calls of the vectors that are about Rate.
 //!
-//! 100,000,000 cents bear 2.73 cents a day at the annual rate 1, 5,425.52 at
-//! 2,000 and 10,745.97 at 4,000.
+//! 100,000,000 cents bear 2.74 cents a day at the annual rate 1, 5,425.52 at
+//! 2,000 and 10,745.98 at 4,000.
 
 use super::*;
 
@@ -22,6 +22,7 @@ pub fn cases(cases: &mut Cases) {
     exactly_not_over(cases);
     owed_again(cases);
     highest_changes(cases);
+    to_the_nearest_unit(cases);
 }
 
 /// 3, 6 and 8, and which of them comes first.
@@ -93,7 +94,7 @@ fn first_and_last_days(cases: &mut Cases) {
     cases.rate(8, day(93), 0);
     cases.changes(day(92), 0, 0, 0);
     cases.advance(8, day(93));
-    cases.changes(day(91), 0, 0, -10_746); // 983,308.79 before, 972,562.82 after
+    cases.changes(day(91), 0, 0, -10_746); // 983,309.7 before, 972,563.72 after
     cases.settle(0, 1_000);
     cases.changes(day(92), 4_000, 0, 0);
     cases.look_at_all();
@@ -136,19 +137,19 @@ fn without_settlements(cases: &mut Cases) {
     cases.changes(day(10), 0, 0, 0);
     cases.changes(day(4), 2_000, 0, 0);
     cases.changes(day(0), 2_000, 0, 0);
-    cases.changes(day(0), 4_000, 0, 53_204); // 107,459.7
+    cases.changes(day(0), 4_000, 0, 53_204); // 107,459.8
     cases.changes(day(0), 0, 0, -107_459);
     cases.changes(day(5), 2_000, 0, 27_127); // 27,127.6
-    cases.changes(day(9), 4_000, 0, 5_321); // 32,448.05
+    cases.changes(day(9), 4_000, 0, 5_321); // 32,448.06
     cases.changes(day(9), 2_000, 0, -5_321);
     cases.changes(day(10), 1, 0, 0);
-    cases.changes(day(1), 1, 0, -27_103); // 24.57, and no other rate from day 1
+    cases.changes(day(1), 1, 0, -27_103); // 24.66, and no other rate from day 1
     cases.advance(0, day(20));
-    cases.totals(0); // 51.87
-    cases.changes(day(0), 1, 0, 3); // 54.6
-    cases.changes(day(15), 0, 0, -14); // 40.95
-    cases.changes(day(15), 1, 0, 14);
-    cases.changes(day(16), 0, 0, -11); // 43.68
+    cases.totals(0); // 52.06
+    cases.changes(day(0), 1, 0, 2); // 54.8
+    cases.changes(day(15), 0, 0, -13); // 41.1
+    cases.changes(day(15), 1, 0, 13);
+    cases.changes(day(16), 0, 0, -11); // 43.84
 
     // From today on several days.
     for (number, annual) in [(21, 4_000), (22, 1), (23, 1), (25, 2_000), (30, 0)] {
@@ -158,11 +159,11 @@ fn without_settlements(cases: &mut Cases) {
     }
     cases.advance(0, day(31));
     // 16 days at 1, 5 at 0, one at 4,000, three at 1, five at 2,000, one at 0:
-    // 37,925.44.
+    // 37,925.64.
     cases.totals(0);
-    cases.changes(day(30), 2_000, 0, 5_425); // 43,350.96
-    cases.changes(day(25), 0, 0, -32_553); // 10,797.84
-    cases.changes(day(21), 0, 0, -10_754); // 43.68
+    cases.changes(day(30), 2_000, 0, 5_426); // 43,351.16
+    cases.changes(day(25), 0, 0, -32_553); // 10,798.04
+    cases.changes(day(21), 0, 0, -10_755); // 43.84
     cases.look_at_all();
 }
 
@@ -189,7 +190,7 @@ fn with_settlements(cases: &mut Cases) {
         annual: 4_000,
         ..good()
     });
-    cases.advance(0, day(10)); // 107,459.7 due
+    cases.advance(0, day(10)); // 107,459.8 due
     cases.settle(0, 1_000_000);
     cases.changes(day(10), 0, 0, 0);
     cases.advance(0, day(20));
@@ -276,7 +277,7 @@ fn on_a_settlements_day(cases: &mut Cases) {
         cases.start(good());
         cases.advance(0, day(5));
         if rate_first {
-            cases.changes(day(4), 4_000, 0, 5_321); // 32,448.05
+            cases.changes(day(4), 4_000, 0, 5_321); // 32,448.06
             cases.changes(day(5), 1, 0, 0);
             cases.settle(0, 32_448 + 50);
         } else {
@@ -298,13 +299,13 @@ fn among_transfers(cases: &mut Cases) {
     cases.changes(day(0), 4_000, 0, 0);
     cases.transfer(0, 3, 4, 1);
     cases.advance(0, day(10));
-    cases.changes(day(3), 2_000, 0, -37_243); // 70,216.55
+    cases.changes(day(3), 2_000, 0, -37_243); // 70,216.58
     cases.look_at_all();
     cases.transfer(0, 1, 2, 400_000);
     cases.changes(day(10), 0, 0, 0);
     cases.transfer(11, 1, 2, 1);
     cases.advance(0, day(20));
-    cases.changes(day(10), 2_000, 0, 54_255); // 124,471.75
+    cases.changes(day(10), 2_000, 0, 54_255); // 124,471.78
     cases.look_at_all();
     cases.settle(0, 200_001);
     cases.changes(day(0), 0, -124_471, 0);
@@ -498,14 +499,14 @@ fn overpaid(cases: &mut Cases) {
         ..good()
     });
     cases.advance(0, day(10));
-    cases.changes(day(5), 4_000, 0, 53_729); // 53,729.85
+    cases.changes(day(5), 4_000, 0, 53_729); // 53,729.9
     cases.settle(0, 100_053_729);
     cases.advance(0, day(12));
     cases.rate(14, day(2), 2_000); // 43,404.16
     cases.rate(14, day(1), 2_000); // 48,829.68
     cases.changes(day(0), 2_000, 526, 0); // 54,255.2
     cases.rate(14, day(1), 0);
-    cases.changes(day(5), 4_000, 26_602, 6); // 80,857.45
+    cases.changes(day(5), 4_000, 26_602, 6); // 80,857.5
     cases.look_at_all();
 }
 
@@ -525,7 +526,7 @@ fn overpaid_today(cases: &mut Cases) {
         cases.rate(14, day(9), 1_999);
         cases.changes(day(9), 2_000, 0, 0);
         cases.changes(day(10), 0, 0, 0);
-        cases.changes(day(9), 4_000, 5_320, 0); // 59,575.65
+        cases.changes(day(9), 4_000, 5_320, 0); // 59,575.66
         cases.look_at_all();
     }
 }
@@ -596,7 +597,7 @@ fn exactly_not_over(cases: &mut Cases) {
                 cases.rate(14, day(0), 0);
                 cases.changes(day(0), 1, 26 - left, -due);
                 cases.rate(14, day(0), 0);
-                cases.changes(day(1), 0, -25, 0); // 2.73
+                cases.changes(day(1), 0, -25, 0); // 2.74
             }
             cases.look_at_all();
         }
@@ -608,7 +609,7 @@ fn owed_again(cases: &mut Cases) {
     cases.start(good());
     cases.advance(0, day(10));
     cases.settle(0, 100_054_255);
-    cases.changes(day(0), 4_000, 53_204, 0); // 107,459.7
+    cases.changes(day(0), 4_000, 53_204, 0); // 107,459.8
     cases.settle(13, 53_204);
     cases.advance(0, day(30));
     cases.totals(0);
@@ -625,9 +626,9 @@ fn owed_again(cases: &mut Cases) {
 }
 
 /// The greatest principal and rate over the longest term. 10^12 cents bear
-/// 107,459,700 a day at 4,000.
+/// 107,459,800 a day at 4,000.
 fn highest_changes(cases: &mut Cases) {
-    const A_DAY: u64 = 107_459_700;
+    const A_DAY: u64 = 107_459_800;
     for settled in [92 * A_DAY, 0] {
         cases.start(Opening {
             term: 6_000,
@@ -652,4 +653,69 @@ fn highest_changes(cases: &mut Cases) {
         cases.rate(0, day(0), 2_000);
         cases.look_at_all();
     }
+}
+
+/// What daily rates to the nearest unit decide (document 02, Req 02). Rounded down
+/// they would be 273 at 1, 902,545 at 3,349 and 1,074,597 at 4,000, and the answers
+/// with them would be others.
+fn to_the_nearest_unit(cases: &mut Cases) {
+    // A day's interest on 10^10 cents is the daily rate. 904 and 3,349 come nearest
+    // to the middle of two units, from below and from above.
+    cases.start(Opening {
+        cents: 10_000_000_000,
+        ..good()
+    });
+    cases.advance(0, day(1));
+    let mut before = 542_552;
+    for (annual, daily) in [
+        (1, 274),
+        (904, 246_561),
+        (3_349, 902_546),
+        (3_999, 1_074_334),
+        (4_000, 1_074_598),
+    ] {
+        cases.changes(day(0), annual, 0, daily - before);
+        before = daily;
+    }
+
+    // The least amount that bears a cent in a day at 1, and a cent less:
+    // 36,496,351 × 274 is 10,000,000,174. All that is owed, and a cent more.
+    for (cents, due) in [(36_496_350, 0), (36_496_351, 1)] {
+        cases.start(Opening {
+            cents,
+            annual: 1,
+            ..good()
+        });
+        cases.advance(0, day(1));
+        cases.settle(14, cents + due + 1);
+        cases.settle(0, cents + due);
+        cases.totals(0);
+    }
+
+    // The same payments after a day at 4,000, which has 3,921 cents of interest. Then
+    // the day gets the rate 1.
+    for more in [0, 1] {
+        cases.start(Opening {
+            cents: 36_496_351,
+            annual: 4_000,
+            ..good()
+        });
+        cases.advance(0, day(1));
+        cases.settle(0, 36_496_352 + more);
+        if more == 0 {
+            cases.changes(day(0), 1, -3_920, 0);
+        } else {
+            cases.rate(14, day(0), 1);
+        }
+    }
+
+    // 50 days are 271,276 cents at 2,000 and 537,299 at 4,000, without a fraction.
+    cases.start(good());
+    cases.advance(0, day(50));
+    cases.changes(day(0), 4_000, 0, 266_023);
+    cases.settle(14, 100_537_300);
+    cases.settle(0, 100_537_299);
+    cases.changes(day(0), 4_000, 0, 0);
+    cases.rate(14, day(49), 3_999); // 10,743.34 instead of 10,745.98
+    cases.look_at_all();
 }

@@ -149,7 +149,7 @@ fn all_but_one_emptied(cases: &mut Cases) {
 fn the_widest_book(cases: &mut Cases) {
     let mut orders = open(20140101, 365, 4_000, 1_000_000_000_000);
     let mut lines = vec![
-        "B20140404   909886292400       97776108  154162800    90113707600     9886292400"
+        "B20140404   909886301600       97776199 9926756800    90113698400     9886301600"
             .to_string(),
     ];
     for holder in (999_999_936..=999_999_999).rev() {

@@ -1,5 +1,5 @@
 //! Books after Rate. The daily rates of 2,000 and 4,000 are 542,552 and
-//! 1,074,597.
+//! 1,074,598.
 
 use super::*;
 
@@ -8,6 +8,7 @@ pub fn cases(cases: &mut Cases) {
     no_settlement(cases);
     payments_already_made(cases);
     as_many_as_a_book_holds(cases);
+    to_the_nearest_unit(cases);
 }
 
 /// The paper's examples 11 and 12.
@@ -53,7 +54,7 @@ fn no_settlement(cases: &mut Cases) {
         ),
         (
             rate(20140101, 4_000),
-            "B20140111    10000000000       10745970          0              0              0",
+            "B20140111    10000000000       10745980          0              0              0",
         ),
         (
             rate(20140101, 0),
@@ -62,16 +63,16 @@ fn no_settlement(cases: &mut Cases) {
         // Four days and six.
         (
             rate(20140105, 4_000),
-            "B20140111    10000000000        8617790          0              0              0",
+            "B20140111    10000000000        8617796          0              0              0",
         ),
         // The later order takes the place of the first; or it stands before it.
         (
             rate(20140106, 0) + &rate(20140103, 4_000),
-            "B20140111    10000000000        9681880          0              0              0",
+            "B20140111    10000000000        9681888          0              0              0",
         ),
         (
             rate(20140103, 4_000) + &rate(20140106, 0),
-            "B20140111    10000000000        4308895          0              0              0",
+            "B20140111    10000000000        4308898          0              0              0",
         ),
     ] {
         cases.stated(whole(day_10.clone() + &rates), &[b_line, h_line]);
@@ -80,7 +81,7 @@ fn no_settlement(cases: &mut Cases) {
     cases.stated(
         whole(day_10 + &rate(20140111, 4_000) + &advance(20140112)),
         &[
-            "B20140112    10000000000        6500117          0              0              0",
+            "B20140112    10000000000        6500118          0              0              0",
             "H        1  1000000    11000000              0",
         ],
     );
@@ -93,14 +94,14 @@ fn payments_already_made(cases: &mut Cases) {
     cases.stated(
         whole(day_1.clone() + &settle(100_000) + &rate(20140101, 4_000)),
         &[
-            "B20140102     1000000000           7459 7000000000              0         100000",
+            "B20140102     1000000000           7459 8000000000              0         100000",
             "H        1  1000000           0         100000",
         ],
     );
     cases.stated(
         whole(day_1 + &settle(200_000) + &rate(20140101, 4_000)),
         &[
-            "B20140102      999907459              0 7000000000          92541         107459",
+            "B20140102      999907459              0 8000000000          92541         107459",
             "H        1  1000000           0         200000",
         ],
     );
@@ -116,8 +117,33 @@ fn as_many_as_a_book_holds(cases: &mut Cases) {
     cases.stated(
         whole(lines),
         &[
-            "B20140121    10000000000       20959895          0              0              0",
+            "B20140121    10000000000       20959914          0              0              0",
             "H        1  1000000    20000000              0",
+        ],
+    );
+}
+
+/// With daily rates rounded down there would be a cent less of interest (document
+/// 02, Req 02).
+fn to_the_nearest_unit(cases: &mut Cases) {
+    // 10,745.98 cents a day for 50 days: 537,299.
+    let opening = open(20140101, 365, 4_000, 100_000_000) + &finance(1, ALL);
+    let day_50 = opening + &advance(20140220);
+    cases.stated(
+        whole(day_50.clone() + &settle(100_537_299)),
+        &[
+            "B20140220              0              0          0      100000000         537299",
+            "H        1  1000000           0      100537299",
+        ],
+    );
+    cases.stated(whole(day_50 + &settle(100_537_300)), &["X 14        4"]);
+    // A day at 1: 36,496,351 × 274 is 10,000,000,174.
+    let opening = open(20140101, 365, 2_000, 36_496_351) + &finance(1, ALL);
+    cases.stated(
+        whole(opening + &advance(20140102) + &rate(20140101, 1)),
+        &[
+            "B20140102       36496351              1        174              0              0",
+            "H        1  1000000     1000000              0",
         ],
     );
 }
