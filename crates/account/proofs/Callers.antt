@@ -1,6 +1,6 @@
 -- What callers may cite of this crate, by the file that proves it.
 
--- The figures of an account stay within bounds: at most 107,459,701 cents of interest a day, and no principal but the first.
+-- The figures of an account stay within bounds: at most `dayInterest` and a cent of interest a day, and no principal but the first.
 pub use Rattle.account.proofs.Bounds.{bounded-elapsed, bounded-opening, bounded-paid, elapsed-outstanding, elapsed-principal-paid, fits, paid-principal-kept, stored-most}
 -- While one order holds, the days are days at its rate.
 pub use Rattle.account.proofs.Segments.{elapsed-last}

@@ -19,7 +19,7 @@ pub record Fits (a : Account) : Type 0 where
 abbrev pub dayInterest : ℕ
 dayInterest = 100 * greatestDaily
 
--- the figures of an account after at most n days; a day brings its interest, and at most a cent from the fraction
+-- the figures of an account after at most n days; a day brings at most `dayInterest`, and a cent from the fraction
 pub record Bounded (n : ℕ) (a : Account) : Type 0 where
   pub principal : a .outstanding .0 + a .«principal_paid» .0 ≤ 1000000000000
   pub below : a .fraction < 10000000000

@@ -25,4 +25,6 @@ odd-power m (suc k) = ap (λ (x : ℕ). x % 2) split ∙ mul-add-mod-self-left 2
     p = (2 * m + 1) ^ k
 
     split : (2 * m + 1) ^ suc k ≡ 2 * (p * m) + p
-    split = pow-suc (2 * m + 1) k ∙ mul-add p (2 * m) 1 ∙ ap (λ (x : ℕ). x + p * 1) (mul-left-comm p 2 m) ∙ ap (λ (x : ℕ). 2 * (p * m) + x) (mul-one p)
+    split =
+        pow-suc (2 * m + 1) k ∙ mul-add p (2 * m) 1 ∙ ap (λ (x : ℕ). x + p * 1) (mul-left-comm p 2 m)
+        ∙ ap (λ (x : ℕ). 2 * (p * m) + x) (mul-one p)

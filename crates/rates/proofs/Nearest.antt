@@ -22,30 +22,27 @@ next-growth-is : (d : ℕ) → growth (suc d) ≡ (2 * (10 ^ 10 + d) + 1) ^ 365
 next-growth-is d = ap (λ (x : ℕ). x ^ 365) (omega arith)
 
 -- every power of an odd number is odd, and the limit is even
-never : (i m : ℕ) → 2 ^ 365 * exactYear i ≢ (2 * m + 1) ^ 365
-never i m e =
+limit-not-odd : (i m : ℕ) → 2 ^ 365 * exactYear i ≢ (2 * m + 1) ^ 365
+limit-not-odd i m e =
     let even : 2 ^ 365 * exactYear i % 2 ≡ 0 = ap (λ (x : ℕ). x % 2) (mul-assoc 2 (2 ^ 364) (exactYear i)) ∙ mul-mod-right 2 (2 ^ 364 * exactYear i) in
-    let odd = odd-power m 365 in
-    let same : 2 ^ 365 * exactYear i % 2 ≡ (2 * m + 1) ^ 365 % 2 = ap (λ (x : ℕ). x % 2) e in
-    let z : _≡_ {A = ℕ} 0 1 = sym even ∙ same ∙ odd in
+    let z : _≡_ {A = ℕ} 0 1 = sym even ∙ ap (λ (x : ℕ). x % 2) e ∙ odd-power m 365 in
     absurd (omega arith)
 
 pub no-tie : (i d : ℕ) → 2 ^ 365 * exactYear i ≢ (2 * (10 ^ 10 + d) + 1) ^ 365
-no-tie i d = never i (10 ^ 10 + d)
+no-tie i d = limit-not-odd i (10 ^ 10 + d)
 
--- what is no more and not equal is less
-strictly : {a b : ℕ} → a ≤ b → b ≢ a → a < b
-strictly {a} {b} le ne = by-order a b (λ lt. lt) (λ ge. absurd (ne (le-antisymm ge le)))
+lt-of-le-ne : {a b : ℕ} → a ≤ b → b ≢ a → a < b
+lt-of-le-ne {a} {b} le ne = by-order a b (λ lt. lt) (λ ge. absurd (ne (le-antisymm ge le)))
 
-low : (i : ℕ) → (2 * (10 ^ 10 + dailyOf i) - 1) ^ 365 < 2 ^ 365 * exactYear i
-low i =
+over-half-below : (i : ℕ) → (2 * (10 ^ 10 + dailyOf i) - 1) ^ 365 < 2 ^ 365 * exactYear i
+over-half-below i =
     let d = dailyOf i in
     let odd : 2 * (10 ^ 10 + d) - 1 ≡ 2 * (9999999999 + d) + 1 = omega arith in
-    strictly (rw (sym (growth-is d), sym (limit-is i)) (within-le i d (meets i))) (λ e. never i (9999999999 + d) (e ∙ ap (λ (x : ℕ). x ^ 365) odd))
+    lt-of-le-ne (rw (sym (growth-is d), sym (limit-is i)) (within-le i d (meets i))) (λ e. limit-not-odd i (9999999999 + d) (e ∙ ap (λ (x : ℕ). x ^ 365) odd))
 
-high : (i : ℕ) → 2 ^ 365 * exactYear i < (2 * (10 ^ 10 + dailyOf i) + 1) ^ 365
-high i = rw (sym (next-growth-is (dailyOf i)), sym (limit-is i)) (next-beyond i)
+under-half-above : (i : ℕ) → 2 ^ 365 * exactYear i < (2 * (10 ^ 10 + dailyOf i) + 1) ^ 365
+under-half-above i = rw (sym (next-growth-is (dailyOf i)), sym (limit-is i)) (next-beyond i)
 
 pub nearest : (i : ℕ)
     → ((2 * (10 ^ 10 + dailyOf i) - 1) ^ 365 < 2 ^ 365 * exactYear i) × (2 ^ 365 * exactYear i < (2 * (10 ^ 10 + dailyOf i) + 1) ^ 365)
-nearest i = (low i, high i)
+nearest i = (over-half-below i, under-half-above i)

@@ -4,7 +4,7 @@ use mathlib.Core.Bool.{Bool}
 use lib.Dec.{leb}
 use Rattle.rates.specs.Rate.{largest}
 
--- (10^10 + x)^365, x being (1 + i)^(1/365) − 1 in units of 1/10^10: "(100,000 + i) × 10^3645"
+-- (10^10 + x)^365, x being the exact rate (1 + i/100,000)^(1/365) − 1 in units of 1/10^10: "(100,000 + i) × 10^3645"
 abbrev pub exactYear : ℕ → ℕ
 exactYear i = (100000 + i) * 10 ^ 3645
 

@@ -16,9 +16,9 @@ pub record Laws : Type 0 where
   -- it is less than half a unit from the exact rate x: 2 × (10^10 + d) − 1 < 2 × (10^10 + x) < 2 × (10^10 + d) + 1, each to the power of 365
   pub nearest : (i : ℕ)
       → ((2 * (10 ^ 10 + dailyOf i) - 1) ^ 365 < 2 ^ 365 * exactYear i) × (2 ^ 365 * exactYear i < (2 * (10 ^ 10 + dailyOf i) + 1) ^ 365)
-  -- no exact rate is half-way between two numbers
+  -- no exact rate is half-way between two whole numbers
   pub no-tie : (i d : ℕ) → 2 ^ 365 * exactYear i ≢ (2 * (10 ^ 10 + d) + 1) ^ 365
-  -- it is the rate rounded down or one more
+  -- it is the exact rate rounded down, as document 01 had it, or one more
   pub down-or-up : (i : ℕ) → (roundedDown i ≤ dailyOf i) × (dailyOf i ≤ suc (roundedDown i))
   -- it is 0 for 0, and grows with the annual rate
   pub none-at-0 : dailyOf 0 ≡ 0

@@ -7,15 +7,15 @@ use lib.Dec.{eqb, leb}
 use Rattle.rates.specs.declared.DailyRate.{DailyRate}
 use Rattle.rates.specs.declared.DailyRate.the-variants.{Daily, Refused}
 
--- (2 × 10^10 + 2d − 1)^365
+-- (2 × 10^10 + 2d − 1)^365: 2^365 times a year at half a unit less than d
 abbrev pub growth : ℕ → ℕ
 growth d = (2 * 10 ^ 10 + 2 * d - 1) ^ 365
 
--- 2^365 × (100,000 + i) × 10^3645
+-- 2^365 × (100,000 + i) × 10^3645: 2^365 times a year at the exact rate of i
 abbrev pub limit : ℕ → ℕ
 limit i = 2 ^ 365 * (100000 + i) * 10 ^ 3645
 
--- d is no more than the annual rate i allows
+-- half a unit less than d is not over the exact rate of i
 unfoldable pub within : ℕ → ℕ → Bool
 within i d = leb (growth d) (limit i)
 
@@ -24,7 +24,7 @@ unfoldable pub largest : (ℕ → Bool) → ℕ → ℕ
 largest test zero = zero
 largest test (suc n) = cond (test (suc n)) (suc n) (largest test n)
 
--- d; no number beyond limit i passes the test
+-- d, 0 for 0; no number beyond limit i passes the test
 unfoldable pub dailyOf : ℕ → ℕ
 dailyOf i = cond (eqb i 0) 0 (largest (within i) (limit i))
 

@@ -10,10 +10,10 @@ use crate::table::DAILY;
 // The greatest annual rate, in thousandths of a percent.
 pub const GREATEST: u64 = 4000;
 
-// The daily rate of it, in units of 1/10^10.
+// The daily rate of the greatest annual rate, in units of 1/10^10.
 pub const GREATEST_DAILY: u64 = 1074598;
 
-// The number of a rate over it.
+// The number of an annual rate over the greatest.
 pub const OVER: u32 = 6;
 
 // A daily rate, in units of 1/10^10.
@@ -45,7 +45,7 @@ pub fn daily_rate(annual: u64) -> DailyRate
     DailyRate::Daily(daily as u64)
 }
 
-// What callers may rely on of daily rates, and the worked examples of document 01 that speak of them alone. It does nothing.
+// What callers may rely on of daily rates, and the worked examples of the papers that speak of them alone. It does nothing.
 pub fn theorems()
     ensures { λ r. ⌜ Laws × Examples ⌝ }
 {}
