@@ -1,5 +1,5 @@
 -- The daily rate is the rate rounded down, or one more.
-use mathlib.Core.Path.{_≡_, sym}
+use mathlib.Core.Path.{_≡_}
 use mathlib.Core.Bool.{true}
 use Prim.Native.Nat.{ℕ, zero, suc, _+_, _*_, _^_, _≤_}
 use native.Mathlib.Nat.{le-trans, le-add-right, mul-le-mul-left, mul-le-mul-right, le-of-mul-le-mul-left, pow-le-pow-left}

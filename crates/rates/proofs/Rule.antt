@@ -1,7 +1,7 @@
 -- What `dailyOf` is: it meets the rule, it is the largest that does, and the only one whose next does not.
 use mathlib.Core.Path.{_≡_, refl}
 use mathlib.Core.Bool.{true, false}
-use Prim.Native.Nat.{ℕ, suc, _+_, _-_, _*_, _^_, _≤_, _<_}
+use Prim.Native.Nat.{ℕ, suc, _≤_, _<_}
 use native.Mathlib.Nat.{le-refl, le-trans, le-antisymm, lt-of-not-le, not-le-of-lt, mul-le-mul-left, mul-le-mul-right, pow-le-pow-left, le-of-suc-le-suc}
 use native.Mathlib.Omega.{arith}
 use lib.Dec.{eqb, lit≤, lit<}
