@@ -177,6 +177,9 @@ impl Book {
 
     pub const SETTLEMENT_DAYS: u32 = 92;
 
+    // The parts of the whole right.
+    pub const PARTS: u64 = 1000000;
+
     // The greatest number of a holder.
     pub const GREATEST_HOLDER: u32 = 999999999;
 

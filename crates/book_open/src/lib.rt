@@ -30,9 +30,6 @@ const LAST_FIRST_DAY: u32 = 20991231;
 // The most cents that a right is recognised with.
 const GREATEST_RECOGNISED: u64 = Account::CENTS;
 
-// The parts of the whole right.
-const WHOLE: u64 = 1000000;
-
 fn refused(book: Book, refusal: Refusal) -> Opened
     ensures { λ r. ⌜ openStated r ≡ refuse nothing book refusal ⌝ }
 {
@@ -153,7 +150,7 @@ fn is_financing(holders: &[u32], shares: &[u32]) -> bool
     if !all_shares(shares) {
         return false;
     }
-    total_of(shares).0 == WHOLE
+    total_of(shares).0 == Book::PARTS
 }
 
 // The positions of the holders, in their order.
