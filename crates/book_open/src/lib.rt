@@ -159,12 +159,12 @@ fn place_holders(book: Book, holders: &[u32], shares: &[u32]) -> Book
     requires { ⌜ (length (now holders) ≡ length (now shares)) × (length (now holders) ≤ 64) ⌝ }
     ensures { λ r. ⌜ r ≡ withHeld book (founded (now (holders .entry)) (now (shares .entry))) ⌝ }
 {
-    let mut next = book;
+    let mut positions = book.positions;
     let count = holders.len();
     let mut i: usize = 0;
     while i < count {
         let parts = shares[i] as u64;
-        next.positions[i] = Position {
+        positions[i] = Position {
             holder: holders[i],
             share: Parts(parts),
             unit_days: 0,
@@ -172,6 +172,8 @@ fn place_holders(book: Book, holders: &[u32], shares: &[u32]) -> Book
         };
         i += 1;
     }
+    let mut next = book;
+    next.positions = positions;
     next.count = count;
     next
 }

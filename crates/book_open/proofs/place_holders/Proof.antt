@@ -6,16 +6,16 @@ use lib.ListN.{length}
 use Rattle.general_laws.proofs.Fronts.{filled, filled-step, filled-all}
 use Rattle.book_model.specs.Book.{fresh, withHeld}
 use Rattle.book_model.specs.Open.{founded}
-use Rattle.book_model.proofs.Callers.{withArray, length-founded, founded-at}
+use Rattle.book_model.proofs.Callers.{length-founded, founded-at}
 use Rattle.book_open.proofs.place_holders.Statement.{statement}
 use Rattle.book_open.proofs.place_holders.Tie as tie
 
 abbrev Inv-loop : tie.InvT-loop
-Inv-loop holders shares next₀ count i₀ next i =
-    (i ≤ count) × (next ≡ withArray next₀ (filled (founded holders shares) i (next₀ .positions)))
+Inv-loop book holders shares positions₀ count i₀ positions i =
+    (i ≤ count) × (positions ≡ filled (founded holders shares) i positions₀)
 
 abbrev μ-loop : tie.MeasureT-loop
-μ-loop holders shares next₀ count i₀ next i = count - i
+μ-loop book holders shares positions₀ count i₀ positions i = count - i
 
 -- The way back from a turn's end to the loop's head
 abbrev by-turn : tie.After-shared-slice-known2 Inv-loop μ-loop → tie.At-loop Inv-loop μ-loop
@@ -33,17 +33,17 @@ shared-slice-read-parts c = omega arith
 cast-parts : tie.Need-cast-parts Inv-loop μ-loop
 cast-parts c = omega (arith, c .shared-slice-known .given (c .before .before .loop .i))
 
-mul-t9 : tie.Need-mul-t9 Inv-loop μ-loop
-mul-t9 c = omega arith
+mul-t10 : tie.Need-mul-t10 Inv-loop μ-loop
+mul-t10 c = omega arith
 
-shared-slice-read-t11 : tie.Need-shared-slice-read-t11 Inv-loop μ-loop
-shared-slice-read-t11 c = omega arith
+shared-slice-read-t12 : tie.Need-shared-slice-read-t12 Inv-loop μ-loop
+shared-slice-read-t12 c = omega arith
 
-mul-t16 : tie.Need-mul-t16 Inv-loop μ-loop
-mul-t16 c = omega arith
+mul-positions : tie.Need-mul-positions Inv-loop μ-loop
+mul-positions c = omega arith
 
-element-set-from-next : tie.Need-element-set-from-next Inv-loop μ-loop
-element-set-from-next c = omega arith
+array-set-from-positions : tie.Need-array-set-from-positions Inv-loop μ-loop
+array-set-from-positions c = omega arith
 
 add-i : tie.Need-add-i Inv-loop μ-loop
 add-i c = omega arith
@@ -53,7 +53,7 @@ loop-less c = omega arith
 
 loop-again : tie.Need-loop-again Inv-loop μ-loop
 loop-again c =
-    let s = by-turn c .before in
+    let s = by-turn c .before .before in
     let l = by-turn c .loop in
     let hs = s .args .holders .now in
     let ss = s .args .shares .now in
@@ -69,7 +69,7 @@ loop-again c =
 returns : tie.Need-returns Inv-loop μ-loop
 unfolding withHeld
 returns c =
-    let s = c .before .before in
+    let s = c .before .before .before in
     let l = c .before .loop in
     let hs = s .args .holders .now in
     let ss = s .args .shares .now in
@@ -86,10 +86,10 @@ place-holders-spec =
     mul-parts
     shared-slice-read-parts
     cast-parts
-    mul-t9
-    shared-slice-read-t11
-    mul-t16
-    element-set-from-next
+    mul-t10
+    shared-slice-read-t12
+    mul-positions
+    array-set-from-positions
     add-i
     loop-less
     loop-again
