@@ -1,7 +1,6 @@
 // Interest accrues by days.
 ghost use mathlib.Core.Path.{_≡_};
-ghost use mathlib.Core.Bool.{true};
-ghost use Prim.Native.Nat.{_-_, _≤_};
+ghost use Prim.Native.Nat.{_≤_};
 ghost use Rattle.rates.specs.Rate.{greatestDaily};
 ghost use Rattle.account.specs.Accrual.{accruedDays};
 ghost use Rattle.account.specs.Reckoning.{accrued};
@@ -55,21 +54,6 @@ pub struct Elapsed {
     pub ordered: bool,
 }
 
-// The days from `from` up to `end`, all at the order at place `at`.
-pub fn hold(account: Account, order: RateOrder, at: usize, from: Day, end: Day) -> Elapsed
-    requires { ⌜ Bounded (from .0) account ⌝ }
-    requires { ⌜ (from .0 ≤ end .0) × (end .0 ≤ 6000) × (order .daily ≤ greatestDaily) ⌝ }
-    ensures { λ r. ⌜ r .account ≡ accruedDays (end .0 - from .0) (order .daily) account ⌝ }
-    ensures { λ r. ⌜ (r .at ≡ at) × (r .ordered ≡ true) ⌝ }
-{
-    let days = end.0 - from.0;
-    Elapsed {
-        account: accrue_days(account, order.daily, Day(days)),
-        at: at,
-        ordered: true,
-    }
-}
-
 // The interest of the days from `from` up to `end`, order by order, each tested as the walk comes to it; the order at `place` holds up to `from`.
 pub fn elapse(
     account: Account,
@@ -105,5 +89,10 @@ pub fn elapse(
         at += 1;
     }
     let order = rates[at];
-    hold(next, order, at, day, end)
+    let days = end.0 - day.0;
+    Elapsed {
+        account: accrue_days(next, order.daily, Day(days)),
+        at: at,
+        ordered: true,
+    }
 }

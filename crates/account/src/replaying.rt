@@ -9,11 +9,12 @@ use crate::Day;
 use crate::RateOrder;
 use crate::Reckoned;
 use crate::Settlement;
+use crate::accrual::accrue_days;
 use crate::accrual::elapse;
-use crate::accrual::hold;
 use crate::paying::pay_off;
 use crate::ranges::are_rising;
 use crate::ranges::is_first;
+use crate::ranges::is_next;
 
 // From the opening to today, settlement by settlement: the cost follows settlements and rates, not days. Each settlement and each order is
 // tested as the walk comes to it. A settlement that is over is not paid, and the walk goes on: numbers out of range are told before it.
@@ -51,25 +52,31 @@ fn replay_all(
         if today.0 < day.0 {
             return Reckoned::OutOfRange;
         }
+        // The orders that begin on the way to the settlement.
+        while at + 1 < rated && rates[at + 1].first.0 < day.0 {
+            let order = rates[at];
+            let later = rates[at + 1];
+            if !is_next(order, later) {
+                return Reckoned::OutOfRange;
+            }
+            let change = later.first;
+            let days = change.0 - from.0;
+            let before = account;
+            account = accrue_days(before, order.daily, Day(days));
+            from = change;
+            at += 1;
+        }
         let order = rates[at];
-        let mut passed = hold(account, order, at, from, day);
-        // Most settlements have no order on the way to them, and the orders need not be handed on.
-        if at + 1 < rated && rates[at + 1].first.0 < day.0 {
-            passed = elapse(account, rates, rated, at, from, day);
-        }
-        let ordered = passed.ordered;
-        if !ordered {
-            return Reckoned::OutOfRange;
-        }
-        account = passed.account;
+        let days = day.0 - from.0;
+        let before = account;
+        account = accrue_days(before, order.daily, Day(days));
         if account.due.0 + account.outstanding.0 < cents.0 {
             over = true;
         } else {
-            let before = account;
-            account = pay_off(before, cents);
+            let owing = account;
+            account = pay_off(owing, cents);
         }
         from = day;
-        at = passed.at;
         i += 1;
     }
     let passed = elapse(account, rates, rated, at, from, today);

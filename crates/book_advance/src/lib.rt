@@ -4,16 +4,18 @@ ghost use Rattle.general_laws.specs.Sums.{total};
 ghost use Rattle.rates.specs.Rate.{greatestDaily};
 ghost use Rattle.account.specs.Accrual.{accruedDays};
 ghost use Rattle.account.specs.Invariant.{Fits};
-ghost use mathlib.Core.Bool.{true};
+ghost use mathlib.Core.Bool.{true, cond};
 ghost use mathlib.Core.List.{map, _++_};
-ghost use Prim.Native.Nat.{_≤_, _<_};
+ghost use Prim.Native.Nat.{_+_, _*_, _≤_, _<_};
+ghost use lib.Dec.{ltb};
 ghost use lib.ListN.{take, drop};
-ghost use Rattle.book_model.specs.Advance.{advancedTo, advanced};
-ghost use Rattle.book_model.specs.Outcome.{advanceCase, advanceStated};
+ghost use Rattle.book_model.specs.Advance.{advanced};
+ghost use Rattle.book_model.specs.Outcome.{advanceStated};
 ghost use Rattle.book_model.specs.Positions.{shares, unitDays};
 ghost use Rattle.book_model.specs.Reached.{Reached};
 ghost use Rattle.book_model.specs.Invariant.{Sound};
 ghost use Rattle.book_model.specs.Closed.{daysHeld};
+ghost use Rattle.book_advance.specs.Asking.{askedTo, askedOf, withPending, daysOf, lastDaily};
 use account::Reckoned;
 use book_model::Account;
 use book_model::AdvanceAnswer;
@@ -21,9 +23,9 @@ use book_model::Advanced;
 use book_model::Book;
 use book_model::Day;
 use book_model::Position;
+use book_model::RateOrder;
 use book_model::Refusal;
 use book_model::count_of;
-use book_model::last_settled;
 use calendar::DayCount;
 
 // What a reached book asks of its account is never out of range.
@@ -51,33 +53,49 @@ fn held_for(position: Position, days: Day) -> Position
     next
 }
 
-// Every position in use gains its share in unit-days, for so many days.
-fn hold_days(
+// The positions after the days asked for; or as they were, where a settlement is pending.
+struct Holding {
     positions: [Position; Book::POSITIONS],
-    count: usize,
-    days: Day,
-) -> [Position; Book::POSITIONS]
-    requires { ⌜ (count ≤ 64) × (days .0 ≤ 92) ⌝ }
-    requires { ⌜ (total (unitDays (take count positions)) ≤ 92000000) × (total (shares (take count positions)) ≤ 1000000) ⌝ }
-    ensures { λ r. ⌜ r ≡ map (daysHeld (days .0)) (take count positions) ++ drop count positions ⌝ }
-{
-    let mut next = positions;
-    let mut i: usize = 0;
-    while i < count {
-        let position = next[i];
-        let held = held_for(position, days);
-        next[i] = held;
-        i += 1;
-    }
-    next
+    pending: bool,
 }
 
-// What Advance answers for the date of a day count.
-fn passing_to(book: Book, count: u32) -> AdvanceAnswer
+// Every position in use gains its share in unit-days, for so many days; unless they reach to more than 92 days after the last settlement. Each day
+// since then has given 1,000,000 unit-days to all positions together.
+fn hold_days(positions: [Position; Book::POSITIONS], count: usize, days: Day) -> Holding
+    requires { ⌜ (count ≤ 64) × (days .0 ≤ 6000) ⌝ }
+    requires { ⌜ (total (unitDays (take count positions)) ≤ 92000000) × (total (shares (take count positions)) ≤ 1000000) ⌝ }
+    ensures { λ r. ⌜ r .pending ≡ ltb 92000000 (total (unitDays (take count positions)) + 1000000 * days .0) ⌝ }
+    ensures { λ r. ⌜ r .positions ≡ map (daysHeld (cond (r .pending) 0 (days .0))) (take count positions) ++ drop count positions ⌝ }
+{
+    let mut next = positions;
+    let mut held: u64 = 0;
+    let mut i: usize = 0;
+    while i < count {
+        held += next[i].unit_days;
+        i += 1;
+    }
+    let pending = Book::PARTS * (Book::SETTLEMENT_DAYS as u64)
+        < held + Book::PARTS * (days.0 as u64);
+    let passed = if pending { Day(0) } else { days };
+    let mut k: usize = 0;
+    while k < count {
+        let position = next[k];
+        let after = held_for(position, passed);
+        next[k] = after;
+        k += 1;
+    }
+    Holding {
+        positions: next,
+        pending: pending,
+    }
+}
+
+// What Advance answers for the date of a day count, pending settlements apart.
+fn asking_to(book: Book, count: u32) -> AdvanceAnswer
     requires { ⌜ Sound book ⌝ }
     requires { ⌜ book .opened ≡ true ⌝ }
     requires { ⌜ count < 73049 ⌝ }
-    ensures { λ r. ⌜ advanceCase r ≡ advancedTo book count .answer ⌝ }
+    ensures { λ r. ⌜ r ≡ askedTo book count ⌝ }
 {
     let first = count_of(book.first);
     let today = first + book.today.0;
@@ -87,54 +105,80 @@ fn passing_to(book: Book, count: u32) -> AdvanceAnswer
     if first + book.term.0 < count {
         return AdvanceAnswer::Refused(Refusal::Day);
     }
-    let settlements = book.settlements;
-    let last = last_settled(settlements, book.settled);
-    if first + (last.0 + Book::SETTLEMENT_DAYS) < count {
-        return AdvanceAnswer::Refused(Refusal::SettlementPending);
-    }
     AdvanceAnswer::Passed(Day(count - today))
 }
 
-// What Advance answers.
-fn passing(book: Book, date: u32) -> AdvanceAnswer
+// What Advance answers, pending settlements apart.
+fn asking(book: Book, date: u32) -> AdvanceAnswer
     requires { ⌜ Sound book ⌝ }
-    ensures { λ r. ⌜ advanceCase r ≡ advanced book date .answer ⌝ }
+    ensures { λ r. ⌜ r ≡ askedOf book date ⌝ }
 {
     let opened = book.opened;
     if !opened {
         return AdvanceAnswer::Refused(Refusal::Unopened);
     }
     match calendar::day_count(date) {
-        DayCount::Day(count) => passing_to(book, count),
+        DayCount::Day(count) => asking_to(book, count),
         DayCount::NoDate => AdvanceAnswer::Refused(Refusal::Date),
     }
+}
+
+// What Advance answers, a settlement being pending or not.
+fn passing(asked: AdvanceAnswer, pending: bool) -> AdvanceAnswer
+    ensures { λ r. ⌜ r ≡ withPending pending asked ⌝ }
+{
+    match asked {
+        AdvanceAnswer::Passed(days) => {
+            if pending {
+                return AdvanceAnswer::Refused(Refusal::SettlementPending);
+            }
+            AdvanceAnswer::Passed(days)
+        }
+        AdvanceAnswer::Refused(refusal) => AdvanceAnswer::Refused(refusal),
+    }
+}
+
+// The days of an answer, 0 for a refusal.
+fn days_passed(answer: AdvanceAnswer) -> Day
+    ensures { λ r. ⌜ r ≡ daysOf answer ⌝ }
+{
+    match answer {
+        AdvanceAnswer::Passed(days) => days,
+        AdvanceAnswer::Refused(_) => Day(0),
+    }
+}
+
+// The daily rate of the last order. No order begins after today, so it holds from today on.
+fn last_daily(rates: [RateOrder; Book::RATES], rated: usize) -> u64
+    requires { ⌜ rated ≤ 16 ⌝ }
+    ensures { λ r. ⌜ r ≡ lastDaily rates rated ⌝ }
+{
+    if rated == 0 {
+        return 0;
+    }
+    let order = rates[rated - 1];
+    order.daily
 }
 
 pub fn advance(book: Book, date: u32) -> Advanced
     requires { ⌜ Reached book ⌝ }
     ensures { λ r. ⌜ advanceStated r ≡ advanced book date ⌝ }
 {
-    let answer = passing(book, date);
+    let asked = asking(book, date);
+    let before = book.positions;
+    let holding = hold_days(before, book.count, days_passed(asked));
+    let answer = passing(asked, holding.pending);
+    // No day passes in a refusal: then nothing accrues, and today stays.
+    let days = days_passed(answer);
+    let account = book.account;
+    let rates = book.rates;
+    let accrued = accrue(account, last_daily(rates, book.rated), days);
+    let end = book.today.0 + days.0;
+    let positions = holding.positions;
     let mut next = book;
-    match answer {
-        AdvanceAnswer::Passed(days) => {
-            // So many days pass, at once.
-            let account = book.account;
-            let rates = book.rates;
-            let rated = book.rated;
-            let today = book.today;
-            let end = today.0 + days.0;
-            // No order begins after today, so the last one holds from today on.
-            let order = rates[rated - 1];
-            let accrued = accrue(account, order.daily, days);
-            let positions = book.positions;
-            let held = hold_days(positions, book.count, days);
-            next.positions = held;
-            next.account = accrued;
-            next.today.0 = end;
-        }
-        AdvanceAnswer::Refused(_) => {}
-    }
+    next.positions = positions;
+    next.account = accrued;
+    next.today.0 = end;
     Advanced {
         answer: answer,
         book: next,

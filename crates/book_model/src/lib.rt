@@ -8,7 +8,6 @@ mod positions;
 
 pub use crate::accounting::daily_rate;
 pub use crate::days::count_of;
-pub use crate::days::last_settled;
 pub use crate::positions::Found;
 pub use crate::positions::find;
 pub use crate::positions::is_holder;

@@ -1,23 +1,21 @@
 // Transfer (document 01): parts of a share move from cedent to assignee.
 ghost use mathlib.Core.Path.{_≡_};
-ghost use mathlib.Core.Bool.{true};
 ghost use Prim.Native.Nat.{_<_};
+ghost use lib.ListN.{getD};
 ghost use Rattle.book_model.specs.Book.{held};
 ghost use Rattle.book_transfer.specs.Moving.{movingStated};
-ghost use Rattle.book_model.specs.Outcome.{refuse, noParts, transferStated};
+ghost use Rattle.book_model.specs.Outcome.{noPosition, transferCase, transferStated};
 ghost use Rattle.book_model.specs.Positions.{place};
 ghost use Rattle.book_model.specs.Reached.{Reached};
 ghost use Rattle.book_model.specs.Invariant.{Sound};
-ghost use Rattle.book_model.specs.Transfer.{moved, transferred};
+ghost use Rattle.book_model.specs.Transfer.{transferred};
 use book_model::Book;
 use book_model::Cents;
-use book_model::Found;
 use book_model::Parts;
 use book_model::Position;
 use book_model::Refusal;
 use book_model::TransferAnswer;
 use book_model::Transferred;
-use book_model::find;
 use book_model::is_holder;
 
 // What Transfer answers, and the positions and their count after it: all of the book that it may change.
@@ -27,93 +25,100 @@ struct Moving {
     count: usize,
 }
 
-fn refused(book: Book, refusal: Refusal) -> Moving
-    ensures { λ r. ⌜ movingStated book r ≡ refuse noParts book refusal ⌝ }
-{
-    let positions = book.positions;
-    Moving {
-        answer: TransferAnswer::Refused(refusal),
-        positions: positions,
-        count: book.count,
-    }
-}
-
-// The parts move from place `from`, the cedent's.
-fn move_parts(book: Book, from: usize, cedent: u32, assignee: u32, parts: Parts) -> Moving
+// What Transfer answers. The cedent stands at place `from` and has so many parts, the assignee stands at place `to`; who is not in the book
+// stands behind the positions.
+fn transfer_answer(
+    book: Book,
+    cedent: u32,
+    assignee: u32,
+    parts: Parts,
+    from: usize,
+    to: usize,
+    has: Parts,
+) -> TransferAnswer
     requires { ⌜ Sound book ⌝ }
-    requires { ⌜ book .opened ≡ true ⌝ }
-    requires { ⌜ (from ≡ place cedent (held book)) × (from < book .count) ⌝ }
-    requires { ⌜ (cedent ≡ assignee → ⊥) ⌝ }
-    ensures { λ r. ⌜ movingStated book r ≡ moved book cedent assignee (parts .0) ⌝ }
+    requires { ⌜ (from ≡ place cedent (held book)) × (to ≡ place assignee (held book)) ⌝ }
+    requires { ⌜ (from < book .count → has .0 ≡ getD (book .positions) from noPosition .share .0) ⌝ }
+    ensures { λ r. ⌜ transferCase r ≡ transferred book cedent assignee parts .answer ⌝ }
 {
-    let mut positions = book.positions;
-    let count = book.count;
-    let mut in_use = count;
-    let mut giver = positions[from];
-    let has = giver.share;
+    let opened = book.opened;
+    if !opened {
+        return TransferAnswer::Refused(Refusal::Unopened);
+    }
+    if !is_holder(cedent) {
+        return TransferAnswer::Refused(Refusal::Holder);
+    }
+    if !is_holder(assignee) {
+        return TransferAnswer::Refused(Refusal::Holder);
+    }
+    if book.count <= from {
+        return TransferAnswer::Refused(Refusal::Holder);
+    }
+    if cedent == assignee {
+        return TransferAnswer::Refused(Refusal::Holder);
+    }
     if parts.0 == 0 {
-        return refused(book, Refusal::Share);
+        return TransferAnswer::Refused(Refusal::Share);
     }
     if has.0 < parts.0 {
-        return refused(book, Refusal::Share);
+        return TransferAnswer::Refused(Refusal::Share);
     }
-    let kept = Parts(has.0 - parts.0);
-    giver.share = kept;
-    match find(positions, count, assignee) {
-        Found::At(to) => {
-            let mut taker = positions[to];
-            let total = taker.share.0 + parts.0;
-            let sum = Parts(total);
-            taker.share = sum;
-            positions[from] = giver;
-            positions[to] = taker;
-        }
-        Found::Nothing => {
-            if Book::POSITIONS <= count {
-                return refused(book, Refusal::BookFull);
-            }
-            positions[from] = giver;
-            positions[count] = Position {
-                holder: assignee,
-                share: parts,
-                unit_days: 0,
-                received: Cents(0),
-            };
-            in_use = count + 1;
-        }
+    if Book::POSITIONS <= to {
+        return TransferAnswer::Refused(Refusal::BookFull);
     }
-    Moving {
-        answer: TransferAnswer::Remaining(kept),
-        positions: positions,
-        count: in_use,
-    }
+    let kept = has.0 - parts.0;
+    TransferAnswer::Remaining(Parts(kept))
 }
 
-// The positions and the answer alone, so that the rest of the book is not copied where the ways meet.
+// The positions and the answer alone. The searches stand where the positions are changed, and the ways meet before the positions are handed on: so
+// they are copied once in and once out.
 fn transfer_positions(book: Book, cedent: u32, assignee: u32, parts: Parts) -> Moving
     requires { ⌜ Reached book ⌝ }
     ensures { λ r. ⌜ movingStated book r ≡ transferred book cedent assignee parts ⌝ }
 {
-    let opened = book.opened;
-    if !opened {
-        return refused(book, Refusal::Unopened);
+    let mut positions = book.positions;
+    let mut count = book.count;
+    let mut from: usize = 0;
+    while from < count && positions[from].holder != cedent {
+        from += 1;
     }
-    if !is_holder(cedent) {
-        return refused(book, Refusal::Holder);
+    let mut to: usize = 0;
+    while to < count && positions[to].holder != assignee {
+        to += 1;
     }
-    if !is_holder(assignee) {
-        return refused(book, Refusal::Holder);
+    let mut has = Parts(0);
+    if from < count {
+        let giver = positions[from];
+        has = giver.share;
     }
-    let positions = book.positions;
-    let count = book.count;
-    match find(positions, count, cedent) {
-        Found::Nothing => refused(book, Refusal::Holder),
-        Found::At(from) => {
-            if cedent == assignee {
-                return refused(book, Refusal::Holder);
+    let answer = transfer_answer(book, cedent, assignee, parts, from, to, has);
+    match answer {
+        TransferAnswer::Remaining(kept) => {
+            let mut giver = positions[from];
+            giver.share = kept;
+            positions[from] = giver;
+            if to == count {
+                positions[to] = Position {
+                    holder: assignee,
+                    share: parts,
+                    unit_days: 0,
+                    received: Cents(0),
+                };
+                count += 1;
+            } else {
+                let mut taker = positions[to];
+                let total = taker.share.0 + parts.0;
+                let sum = Parts(total);
+                taker.share = sum;
+                positions[to] = taker;
             }
-            move_parts(book, from, cedent, assignee, parts)
         }
+        TransferAnswer::Refused(_) => {}
+    }
+    Moving {
+        answer: answer,
+        positions: positions,
+        count: count,
     }
 }
 

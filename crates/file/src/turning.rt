@@ -58,22 +58,18 @@ pub fn open_turn(file: &[u8], book: Book, f: Fields, at: usize, lines: usize) ->
             );
             let answer = opened.answer;
             let after = opened.book;
-            match answer {
-                OpenAnswer::Accepted => Turn {
-                    next: Next::On,
-                    book: after,
-                    at: g.at,
-                    lines: g.lines,
-                },
-                OpenAnswer::Refused(refusal) => Turn {
-                    next: Next::Stop(LoadAnswer::Refused {
-                        refusal: LoadRefusal::Call(refusal),
-                        line: lines,
-                    }),
-                    book: after,
-                    at: g.at,
-                    lines: g.lines,
-                },
+            let next = match answer {
+                OpenAnswer::Accepted => Next::On,
+                OpenAnswer::Refused(refusal) => Next::Stop(LoadAnswer::Refused {
+                    refusal: LoadRefusal::Call(refusal),
+                    line: lines,
+                }),
+            };
+            Turn {
+                next,
+                book: after,
+                at: g.at,
+                lines: g.lines,
             }
         }
     }

@@ -1,75 +1,24 @@
--- The cases of the date, in the specification's order.
+-- Days that a settlement has to come before are refused; a refusal stays.
 use borrow.Author.Needs.{needs}
-use Prim.Native.Nat.{ℕ}
-use mathlib.Core.Path.{_≡_, _∙_}
-use mathlib.Core.Bool.{true, false}
-use borrow.Author.Tests.{not-true, not-false}
-use Rattle.calendar.proofs.Callers.{Counted, day-tells, no-date-tells}
-use Rattle.calendar.specs.Calendar.{isDate}
-use Rattle.book_model.specs.declared.Book.{Book}
-use Rattle.book_model.specs.declared.Refusal.the-variants as refusal
-use Rattle.book_model.specs.Advance.{advancedTo, advanced}
-use Rattle.book_model.specs.Outcome.{declined, noDays}
+use mathlib.Core.Path.{sym, ap, ap₂}
+use Rattle.book_advance.specs.Asking.{withPending}
 use Rattle.book_advance.proofs.passing.Statement.{statement}
 use Rattle.book_advance.proofs.passing.Tie as tie
 
-module _ (b : Book) (date : ℕ) where
-  unopened : b .opened ≡ false → declined noDays refusal.Unopened ≡ advanced b date .answer
-  unfolding advanced
-  unopened e = rw e
-
-  no-date : b .opened ≡ true → isDate date ≡ false → declined noDays refusal.Date ≡ advanced b date .answer
-  unfolding advanced
-  no-date e d = rw (e, d)
-
-  to-date : b .opened ≡ true → (count : ℕ) → Counted date count → advancedTo b count .answer ≡ advanced b date .answer
-  unfolding advanced
-  to-date e count told = rw (e, told .is-date, told .is-count)
-
--- The way back to the date's reading
-abbrev by-told : tie.After-known-told → tie.After-day-count
-by-told c = c .before .before .before
-
--- the book is open, and the date has this count
-is-open : (c : tie.After-day-count) → c .before .before .args .book .opened ≡ true
-is-open c = not-false _ (c .before .if1 .left)
-
-counted : (c : tie.After-known-told) → Counted (by-told c .before .before .args .date) (c .before .count .given .0 .0)
-counted c = day-tells _ _ (c .before .count .given .1) (by-told c .day-count .ensures)
+enum-known-asked : tie.Need-enum-known-asked
+enum-known-asked c = search needs
 
 returns : tie.Need-returns
-returns c = unopened _ _ (not-true _ (c .if1 .taken))
+returns c = sym (ap₂ withPending (c .if1 .taken) (c .before .before .asked .given .1))
 
-day-count-requires : tie.Need-day-count-requires
-day-count-requires c κs = search needs
-
-enum-known-count : tie.Need-enum-known-count
-enum-known-count c = search needs
-
-passing-to-requires : tie.Need-passing-to-requires
-passing-to-requires c κs =
-    let k = by-told c in
-    (k .before .before .pre, (is-open k, counted c .within))
-
-enum-told : tie.Need-enum-told
-enum-told c = search needs
+enum-known-asked-2 : tie.Need-enum-known-asked-2
+enum-known-asked-2 c = search needs
 
 returns-2 : tie.Need-returns-2
-returns-2 c = c .passing-to .ensures ∙ to-date _ _ (is-open (by-told (c .before))) _ (counted (c .before))
+returns-2 c = sym (ap₂ withPending (c .if1 .left) (c .before .before .asked .given .1))
 
 returns-3 : tie.Need-returns-3
-returns-3 c =
-    let k = c .before .before in
-    no-date _ _ (is-open k) (no-date-tells _ (c .enum-told .given .1) (k .day-count .ensures))
+returns-3 c = sym (ap (withPending _) (c .before .asked2 .given .1))
 
 pub passing-spec : {M : Type 1} → statement M
-passing-spec =
-    tie.close
-    (tie.spec
-    returns
-    day-count-requires
-    enum-known-count
-    passing-to-requires
-    enum-told
-    returns-2
-    returns-3)
+passing-spec = tie.close (tie.spec enum-known-asked returns enum-known-asked-2 returns-2 returns-3)

@@ -1,104 +1,96 @@
--- The refusals before the day's, in the specification's order.
-use Prim.Native.Nat.{ℕ, _≤_, _<_}
+-- What the order changes of the book, its rates and its account, is put back into it; a refused order changes nothing.
+use Prim.Native.Nat.{ℕ, _+_, _<_}
 use native.Mathlib.Omega.{arith}
-use mathlib.Core.Path.{_≡_, _∙_}
-use mathlib.Core.Bool.{true, false}
+use mathlib.Core.Logic.{⊎-elim}
+use mathlib.Core.Path.{_≡_, ap, subst, _∙_}
+use mathlib.Core.List.{List}
 use borrow.Author.Needs.{needs}
-use borrow.Author.Tests.{lt-ltb, le-ltb, not-true, not-false}
-use Rattle.calendar.proofs.Callers.{Counted, day-tells, no-date-tells}
-use Rattle.calendar.specs.Calendar.{isDate}
+use lib.ListN.{set}
+use Rattle.account.specs.declared.Account.{Account}
+use Rattle.account.specs.declared.RateOrder.{RateOrder}
+use Rattle.account.specs.Invariant.{Fits}
 use Rattle.book_model.specs.declared.Book.{Book}
-use Rattle.book_model.specs.declared.Refusal.the-variants as refusal
-use Rattle.book_model.specs.Outcome.{refuse, noChanges}
-use Rattle.book_model.specs.Rate.{ratedFrom, rated}
-use Rattle.book_model.proofs.Callers.{sound}
+use Rattle.book_model.specs.declared.RateAnswer.{RateAnswer}
+use Rattle.book_model.specs.declared.RateAnswer.the-variants as rate-answer
+use Rattle.book_model.specs.declared.Refusal.{Refusal}
+use Rattle.book_model.specs.Outcome.{Outcome, Changes, answered, rateCase}
+use Rattle.book_model.specs.Rate.{changesOf}
+use Rattle.book_rate.specs.declared.Revision.{Revision}
+use Rattle.book_rate.specs.declared.Revision.the-variants as revision
+use Rattle.book_rate.specs.Revision.{withArray, revisionStated, StandsWithin}
 use Rattle.book_rate.proofs.rate.Statement.{statement}
 use Rattle.book_rate.proofs.rate.Tie as tie
 
-module _ (b : Book) (date annual : ℕ) where
-  unopened : b .opened ≡ false → refuse noChanges b refusal.Unopened ≡ rated b date annual
-  unfolding rated
-  unopened e = rw e
+-- The answer and the book put together are what the order does
+module _ (b : Book) (r : Revision) (rates : List RateOrder) (count : ℕ) (a : Account) (answer : RateAnswer) where
+  abbrev PutTogether : Type 0
+  PutTogether = _≡_ {A = Outcome Changes} (record { answer = rateCase answer; book = withArray b a count rates }) (revisionStated b r)
 
-  module _ (is-open : b .opened ≡ true) where
-    no-date : isDate date ≡ false → refuse noChanges b refusal.Date ≡ rated b date annual
-    unfolding rated
-    no-date d = rw (is-open, d)
+  changed : (o : RateOrder) (place : ℕ) (after : Account) → r ≡ revision.Stands o place after
+      → rates ≡ set (b .rates) place o → count ≡ place + 1 → a ≡ after → rateCase answer ≡ answered (changesOf (b .account) after)
+      → PutTogether
+  changed o place after e rates-is count-is account-is answer-is = rw (e, rates-is, count-is, account-is, answer-is)
 
-    module _ (count : ℕ) (told : Counted date count) where
-      over : 4000 < annual → refuse noChanges b refusal.Rate ≡ rated b date annual
-      unfolding rated
-      over lt = rw (is-open, told .is-date, lt-ltb 4000 annual lt)
+  unchanged : (x : Refusal) → r ≡ revision.Refused x
+      → rates ≡ b .rates → count ≡ b .rated → a ≡ b .account → answer ≡ rate-answer.Refused x
+      → PutTogether
+  unchanged x e rates-is count-is account-is answer-is = rw (e, rates-is, count-is, account-is, answer-is)
 
-      from-date : annual ≤ 4000 → ratedFrom b count annual ≡ rated b date annual
-      unfolding rated
-      from-date le = rw (is-open, told .is-date, le-ltb 4000 annual le, told .is-count)
+-- The way back to what the order does
+abbrev by-revision : tie.After-known-told → tie.After-revision-of
+by-revision c = c .before .before .before .before .before
 
--- The way back to the date's reading
-abbrev by-told : tie.After-known-told → tie.After-day-count
-by-told c = c .before .before .before
+-- an order that stands has a place in the array, and both accounts fit
+abbrev place : tie.After-known-told → ℕ
+place c = c .before .revision .given .0 .1 .0
 
--- the book is open, and the date has this count
-open-there : (c : tie.After-day-count) → c .before .before .args .book .opened ≡ true
-open-there c = not-false _ (c .before .if1 .left)
+abbrev after : tie.After-known-told → Account
+after c = c .before .revision .given .0 .1 .1 .0
 
-counted : (c : tie.After-known-told) → Counted (by-told c .before .before .args .date) (c .before .count .given .0 .0)
-counted c = day-tells _ _ (c .before .count .given .1) (by-told c .day-count .ensures)
+within : (c : tie.After-known-told) → (place c < 16) × Fits (by-revision c .before .args .book .account) × Fits (after c)
+within c =
+    let k = by-revision c in
+    subst (λ (r : Revision). StandsWithin (k .before .args .book) r) (c .before .revision .given .1) (k .revision-of .ensures .1)
 
-refused-requires : tie.Need-refused-requires
-refused-requires c κs = search needs
+revision-of-requires : tie.Need-revision-of-requires
+revision-of-requires c κs = search needs
+
+enum-known-revision : tie.Need-enum-known-revision
+enum-known-revision c = search needs
+
+changes-requires : tie.Need-changes-requires
+changes-requires c κs = (within c .1, within c .2)
+
+mul-rates : tie.Need-mul-rates
+mul-rates c = omega (arith, within (c .before) .0)
+
+array-set-from-rates : tie.Need-array-set-from-rates
+array-set-from-rates c = within (c .before) .0
+
+add-rated : tie.Need-add-rated
+add-rated c = omega (arith, within (c .before) .0)
+
+enum-known-revision-2 : tie.Need-enum-known-revision-2
+enum-known-revision-2 c = search needs
 
 returns : tie.Need-returns
 returns c =
-    c .refused .ensures ∙ unopened _ _ _ (not-true _ (c .before .if1 .taken))
-
-day-count-requires : tie.Need-day-count-requires
-day-count-requires c κs = search needs
-
-enum-known-count : tie.Need-enum-known-count
-enum-known-count c = search needs
-
-enum-told : tie.Need-enum-told
-enum-told c = search needs
-
-refused-requires-2 : tie.Need-refused-requires-2
-refused-requires-2 c κs = search needs
-
-returns-2 : tie.Need-returns-2
-returns-2 c =
     let k = c .before .before .before in
-    c .refused2 .ensures ∙ no-date _ _ _ (open-there k) (no-date-tells _ (c .before .enum-told .given .1) (k .day-count .ensures))
-
-refused-requires-3 : tie.Need-refused-requires-3
-refused-requires-3 c κs = search needs
-
-returns-3 : tie.Need-returns-3
-returns-3 c =
-    let k = c .before .before in
-    c .refused3 .ensures ∙ over _ _ _ (open-there (by-told k)) _ (counted k) (omega arith)
-
-rate-from-requires : tie.Need-rate-from-requires
-rate-from-requires c κs =
-    let k = by-told (c .before) in
-    (sound _ (k .before .before .pre), (open-there k, omega arith))
-
-returns-4 : tie.Need-returns-4
-returns-4 c =
-    let k = c .before .before in
-    c .rate-from .ensures ∙ from-date _ _ _ (open-there (by-told k)) _ (counted k) (omega arith)
+    ⊎-elim
+    (λ w. changed _ _ _ _ _ (c .match .answer) _ _ _ (w .1 .given .1) (w .4) (w .5) (w .6) (ap rateCase (w .7) ∙ w .3 .ensures))
+    (λ w. unchanged _ _ _ _ _ (c .match .answer) _ (w .1 .given .1) (w .3) (w .4) (w .5) (w .6))
+    (c .match .came)
+    ∙ k .revision-of .ensures .0
 
 pub rate-spec : {M : Type 1} → statement M
 rate-spec =
     tie.close
     (tie.spec
-    refused-requires
-    returns
-    day-count-requires
-    enum-known-count
-    enum-told
-    refused-requires-2
-    returns-2
-    refused-requires-3
-    returns-3
-    rate-from-requires
-    returns-4)
+    revision-of-requires
+    enum-known-revision
+    changes-requires
+    mul-rates
+    array-set-from-rates
+    add-rated
+    enum-known-revision-2
+    returns)

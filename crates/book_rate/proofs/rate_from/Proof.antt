@@ -13,24 +13,25 @@ use Rattle.rates.specs.Rate.{dailyOf}
 use Rattle.book_model.specs.declared.Book.{Book}
 use Rattle.book_model.specs.declared.Refusal.the-variants as refusal
 use Rattle.book_model.specs.Book.{ratesOf}
-use Rattle.book_model.specs.Outcome.{refuse, noChanges}
 use Rattle.book_model.specs.Rate.{startingBefore, revised, ratedFrom}
 use Rattle.book_model.specs.Invariant.{OpenSound}
+use Rattle.book_rate.specs.declared.Revision.the-variants as revision
+use Rattle.book_rate.specs.Revision.{revisionStated}
 use Rattle.book_rate.proofs.rate_from.Statement.{statement}
 use Rattle.book_rate.proofs.rate_from.Tie as tie
 
 -- What is answered in each case, by the first day's count
 module _ (b : Book) (count annual first : ℕ) (e : first ≡ dayCount (b .first)) where
-  before-first : count < first → refuse noChanges b refusal.Day ≡ ratedFrom b count annual
+  before-first : count < first → revisionStated b (revision.Refused refusal.Day) ≡ ratedFrom b count annual
   unfolding ratedFrom
   before-first lt = rw (← e, lt-ltb count (first + 0) (omega arith))
 
-  after-today : first + b .today .0 < count → refuse noChanges b refusal.Day ≡ ratedFrom b count annual
+  after-today : first + b .today .0 < count → revisionStated b (revision.Refused refusal.Day) ≡ ratedFrom b count annual
   unfolding ratedFrom
   after-today lt = rw (← e, lt-ltb (first + b .today .0) count lt, or-true)
 
   module _ (from : first ≤ count) (until : count ≤ first + b .today .0) where
-    full : 16 ≤ length (startingBefore (count - first) (ratesOf b)) → refuse noChanges b refusal.BookFull ≡ ratedFrom b count annual
+    full : 16 ≤ length (startingBefore (count - first) (ratesOf b)) → revisionStated b (revision.Refused refusal.BookFull) ≡ ratedFrom b count annual
     unfolding ratedFrom
     full le =
         rw (
@@ -75,12 +76,9 @@ count-of-requires c κs = search needs
 first-is : (c : tie.After-count-of) → c .count-of .result ≡ dayCount (c .before .args .book .first)
 first-is c = c .count-of .ensures ∙ ap (λ (answer : ℕ × ℕ). answer .1) (count-date _ (known (c .before) .first-date))
 
-refused-requires : tie.Need-refused-requires
-refused-requires c κs = search needs
-
 returns : tie.Need-returns
 returns c =
-    c .refused .ensures ∙ before-first _ _ _ _ (first-is (c .before .before)) (omega arith)
+    (before-first _ _ _ _ (first-is (c .before)) (omega arith), tt)
 
 add-if2 : tie.Need-add-if2
 add-if2 c =
@@ -94,24 +92,17 @@ add-if2 c =
       known s .term-most,
     )
 
-refused-requires-2 : tie.Need-refused-requires-2
-refused-requires-2 c κs = search needs
-
 returns-2 : tie.Need-returns-2
 returns-2 c =
-    c .refused2 .ensures ∙ after-today _ _ _ _ (first-is (by-today (c .before .before))) (omega arith)
+    (after-today _ _ _ _ (first-is (by-today (c .before))) (omega arith), tt)
 
 count-before-requires : tie.Need-count-before-requires
 count-before-requires c κs = known (by-rates c .before) .rates-most
 
-refused-requires-3 : tie.Need-refused-requires-3
-refused-requires-3 c κs = search needs
-
 returns-3 : tie.Need-returns-3
 returns-3 c =
-    let k = c .before .before in
-    c .refused3 .ensures
-    ∙ full _ _ _ _ (first-is (by-before k)) (omega arith) (omega arith) (omega (arith, k .count-before .ensures))
+    let k = c .before in
+    (full _ _ _ _ (first-is (by-before k)) (omega arith) (omega arith) (omega (arith, k .count-before .ensures)), tt)
 
 daily-rate-requires : tie.Need-daily-rate-requires
 daily-rate-requires c κs = search needs
@@ -126,26 +117,25 @@ revise-requires : tie.Need-revise-requires
 revise-requires c κs =
     let k = by-daily c in
     let s = by-before k .before in
-    (s .pre .0, (s .pre .1 .0, ((s .pre .1 .1, daily-is c, omega arith), omega (arith, k .count-before .ensures))))
+    (s .pre .0, (s .pre .1 .0, ((s .pre .1 .1, daily-is c, omega arith), (k .count-before .ensures, omega arith))))
 
 returns-4 : tie.Need-returns-4
 returns-4 c =
-    let k = by-daily (c .before) in
-    c .revise .ensures
-    ∙ on-day _ _ _ _ (first-is (by-before k)) (omega arith) (omega arith) _ (daily-is (c .before)) (omega (arith, k .count-before .ensures))
+    let k = by-daily (c .before) in (
+      c .revise .ensures .0
+          ∙ on-day _ _ _ _ (first-is (by-before k)) (omega arith) (omega arith) _ (daily-is (c .before)) (omega (arith, k .count-before .ensures)),
+      c .revise .ensures .1,
+    )
 
 pub rate-from-spec : {M : Type 1} → statement M
 rate-from-spec =
     tie.close
     (tie.spec
     count-of-requires
-    refused-requires
     returns
     add-if2
-    refused-requires-2
     returns-2
     count-before-requires
-    refused-requires-3
     returns-3
     daily-rate-requires
     revise-requires

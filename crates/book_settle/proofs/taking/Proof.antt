@@ -29,11 +29,8 @@ by-within c = c .before .before
 abbrev by-free : tie.Else3 → tie.Else2
 by-free c = c .before .before
 
-abbrev by-last : tie.After-last-settled → tie.Else3
-by-last c = c .before .before
-
 abbrev by-day : tie.After-struct-known4 → tie.Else3
-by-day c = by-last (c .before .before)
+by-day c = c .before .before
 
 abbrev by-owed : tie.After-struct-known6 → tie.Else3
 by-owed c = by-day (c .before .before .before)
@@ -56,9 +53,6 @@ returns-3 c =
     let o = by-within (c .before .before) in
     ap answer-of (full _ _ (is-open o) (omega arith) (omega arith))
 
-last-settled-requires : tie.Need-last-settled-requires
-last-settled-requires c κs = search needs
-
 returns-4 : tie.Need-returns-4
 returns-4 c =
     let o = by-within (by-free (by-day (c .before))) in
@@ -67,7 +61,7 @@ returns-4 c =
 add-if5 : tie.Need-add-if5
 add-if5 c =
     let o = by-within (by-free (by-day (c .before .before))) in
-    omega (arith, o .before .pre .when-open (is-open o))
+    omega (arith, o .before .pre .0 .when-open (is-open o))
 
 returns-5 : tie.Need-returns-5
 returns-5 c =
@@ -98,7 +92,6 @@ taking-spec =
     returns
     returns-2
     returns-3
-    last-settled-requires
     returns-4
     add-if5
     returns-5

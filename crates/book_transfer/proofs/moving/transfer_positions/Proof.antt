@@ -1,153 +1,273 @@
--- Each refusal at its test, and the parts moved where the cedent is found.
-use Prim.Native.Nat.{_<_}
+-- Both searches pass the positions of others, and the changed positions are those of the answer.
+use Prim.Native.Nat.{ℕ, _-_, _<_}
 use native.Mathlib.Omega.{arith}
-use mathlib.Core.Path.{_≡_, sym, ap, _∙_}
-use mathlib.Core.Bool.{not, true, false}
+use mathlib.Core.Path.{_≡_, ap}
+use mathlib.Core.Logic.{⊎-elim}
 use borrow.Author.Needs.{needs}
-use borrow.Author.Tests.{not-false}
+use borrow.Author.Tests.{eqb-false, eqb-true, not-false, not-true}
+use lib.ListN.{getD}
+use Rattle.book_model.specs.declared.Parts.{Parts}
 use Rattle.book_model.specs.Book.{held}
-use Rattle.book_model.specs.Positions.{isHolder, place, present}
-use Rattle.book_model.specs.Invariant.{OpenSound}
-use Rattle.book_model.proofs.Callers.{length-held, sound, found-at, found-nothing, transfer-unopened, transfer-cedent, transfer-assignee, transfer-unknown, transfer-same, transfer-other}
+use Rattle.book_model.specs.Invariant.{Sound}
+use Rattle.book_model.specs.Outcome.{noPosition}
+use Rattle.book_model.specs.Positions.{place}
+use Rattle.book_model.proofs.Callers.{share-most, sound}
+use Rattle.book_transfer.proofs.Answers.{Granted, assignee-has, ceding, enough, free, given-between, given-last, refused-book, told}
+use Rattle.book_transfer.proofs.Searches.{Passed, held-most, passed-on, stopped, within}
 use Rattle.book_transfer.proofs.moving.transfer_positions.Statement.{statement}
 use Rattle.book_transfer.proofs.moving.transfer_positions.Tie as tie
 
+abbrev Inv-loop : tie.InvT-loop
+Inv-loop book cedent assignee parts positions count from₀ from = Passed cedent book from
+
+abbrev μ-loop : tie.MeasureT-loop
+μ-loop book cedent assignee parts positions count from₀ from = count - from
+
+abbrev Inv-loop2 : tie.InvT-loop2
+Inv-loop2 book cedent assignee parts positions count from to₀ to = Passed assignee book to
+
+abbrev μ-loop2 : tie.MeasureT-loop2
+μ-loop2 book cedent assignee parts positions count from to₀ to = count - to
+
 -- The way back to the start, from each place by the one before it
-abbrev by-cedent : tie.After-is-holder → tie.Start
+abbrev by-cedent : tie.At-loop Inv-loop μ-loop Inv-loop2 μ-loop2 → tie.Start Inv-loop μ-loop Inv-loop2 μ-loop2
 by-cedent c = c .before .before
 
-abbrev by-assignee : tie.After-is-holder2 → tie.After-is-holder
+abbrev by-assignee : tie.At-loop2 Inv-loop μ-loop Inv-loop2 μ-loop2 → tie.At-loop Inv-loop μ-loop Inv-loop2 μ-loop2
 by-assignee c = c .before .before
 
-abbrev asked : tie.Else3 → tie.Start
-asked c = by-cedent (by-assignee (c .before))
+abbrev searched : tie.After-transfer-answer Inv-loop μ-loop Inv-loop2 μ-loop2 → tie.At-loop2 Inv-loop μ-loop Inv-loop2 μ-loop2
+searched c = c .before .before .before
 
-abbrev by-find : tie.After-find → tie.Else3
-by-find c = c .before .before
+abbrev asked : tie.After-answer Inv-loop μ-loop Inv-loop2 μ-loop2 → tie.After-transfer-answer Inv-loop μ-loop Inv-loop2 μ-loop2
+asked c = c .before .before
 
--- the book is open, and both numbers are holders'
-is-open : (c : tie.After-is-holder) → not (by-cedent c .args .book .opened) ≡ false
-is-open c = c .before .if1 .left
+abbrev granted : tie.After-giver2 Inv-loop μ-loop Inv-loop2 μ-loop2 → tie.After-answer Inv-loop μ-loop Inv-loop2 μ-loop2
+granted c = c .before .before
 
-cedent-right : (c : tie.After-is-holder2) → not (isHolder (by-cedent (by-assignee c) .args .cedent)) ≡ false
-cedent-right c = ap not (sym (by-assignee c .is-holder .ensures)) ∙ c .before .if2 .left
+abbrev by-total : tie.After-struct-known2 Inv-loop μ-loop Inv-loop2 μ-loop2 → tie.Else4 Inv-loop μ-loop Inv-loop2 μ-loop2
+by-total c = c .before .before .before
 
-assignee-right : (c : tie.Else3) → not (isHolder (asked c .args .assignee)) ≡ false
-assignee-right c = ap not (sym (c .before .is-holder2 .ensures)) ∙ c .if3 .left
+sound-book : (s : tie.Start Inv-loop μ-loop Inv-loop2 μ-loop2) → Sound (s .args .book)
+sound-book s = sound (s .args .book) (s .pre)
 
-open-sound : (c : tie.Else3) → OpenSound (asked c .args .book)
-open-sound c = let s = asked c in sound (s .args .book) (s .pre) .when-open (not-false _ (is-open (by-assignee (c .before))))
+-- where the searches stopped
+cedent-stop : (c : tie.Left-loop Inv-loop μ-loop Inv-loop2 μ-loop2)
+    → c .before .loop .from < by-cedent (c .before) .args .book .count
+    → getD (by-cedent (c .before) .args .book .positions) (c .before .loop .from) noPosition .holder ≡ by-cedent (c .before) .args .cedent
+cedent-stop c below =
+    ⊎-elim (λ w. eqb-true _ _ (not-false _ (w .1 .left))) (λ w. absurd (omega (arith, w .left))) (c .loop-test .came)
 
--- the cedent is in the book
-abbrev passed : tie.After-from → tie.Else3
-passed c = by-find (c .before .before)
+assignee-stop : (c : tie.Left-loop2 Inv-loop μ-loop Inv-loop2 μ-loop2)
+    → c .before .loop2 .to < by-cedent (by-assignee (c .before)) .args .book .count
+    → getD (by-cedent (by-assignee (c .before)) .args .book .positions) (c .before .loop2 .to) noPosition .holder
+    ≡ by-cedent (by-assignee (c .before)) .args .assignee
+assignee-stop c below =
+    ⊎-elim (λ w. eqb-true _ _ (not-false _ (w .1 .left))) (λ w. absurd (omega (arith, w .left))) (c .loop2-test .came)
 
-hit : (c : tie.After-from)
-    → (c .from .given .0 .0 ≡ place (asked (passed c) .args .cedent) (held (asked (passed c) .args .book)))
-    × (c .from .given .0 .0 < asked (passed c) .args .book .count)
-    × (present (asked (passed c) .args .cedent) (held (asked (passed c) .args .book)) ≡ true)
-hit c =
-    let s = asked (passed c) in
-    let b = s .args .book in
-    let f = found-at (held b) (s .args .cedent) _ (sym (c .from .given .1) ∙ c .before .before .find .ensures) in
-    let n = length-held b (omega (arith, sound b (s .pre) .room-positions, open-sound (passed c) .positions-most)) in
-    (f .0, omega (arith, f .1), f .2)
+cedent-place : (c : tie.Left-loop Inv-loop μ-loop Inv-loop2 μ-loop2)
+    → c .before .loop .from ≡ place (by-cedent (c .before) .args .cedent) (held (by-cedent (c .before) .args .book))
+cedent-place c = stopped (sound-book (by-cedent (c .before))) _ _ (c .before .loop .inv) (cedent-stop c)
 
-refused-requires : tie.Need-refused-requires
-refused-requires c κs = search needs
+assignee-place : (c : tie.Left-loop2 Inv-loop μ-loop Inv-loop2 μ-loop2)
+    → c .before .loop2 .to
+    ≡ place (by-cedent (by-assignee (c .before)) .args .assignee) (held (by-cedent (by-assignee (c .before)) .args .book))
+assignee-place c = stopped (sound-book (by-cedent (by-assignee (c .before)))) _ _ (c .before .loop2 .inv) (assignee-stop c)
 
-returns : tie.Need-returns
-returns c =
-    c .refused .ensures ∙ transfer-unopened _ _ _ _ (c .before .if1 .taken)
+-- what the cedent has was read where there is a cedent
+cedent-has : (c : tie.Joined3 Inv-loop μ-loop Inv-loop2 μ-loop2)
+    → by-assignee (c .before .before) .loop .from < by-cedent (by-assignee (c .before .before)) .args .book .count
+    → c .if3 .has .0
+    ≡ getD (by-cedent (by-assignee (c .before .before)) .args .book .positions) (by-assignee (c .before .before) .loop .from) noPosition .share .0
+cedent-has c lt =
+    ⊎-elim (λ w. ap (λ (p : Parts). p .0) (w .3)) (λ w. absurd (omega (arith, w .0 .left))) (c .if3 .came)
 
-is-holder-requires : tie.Need-is-holder-requires
-is-holder-requires c κs = search needs
+-- the transfer is answered by what the cedent keeps
+abbrev start : tie.After-answer Inv-loop μ-loop Inv-loop2 μ-loop2 → tie.Start Inv-loop μ-loop Inv-loop2 μ-loop2
+start c = by-cedent (by-assignee (searched (asked c)))
 
-refused-requires-2 : tie.Need-refused-requires-2
-refused-requires-2 c κs = search needs
+abbrev from : tie.After-answer Inv-loop μ-loop Inv-loop2 μ-loop2 → ℕ
+from c = by-assignee (searched (asked c)) .loop .from
 
-returns-2 : tie.Need-returns-2
-returns-2 c =
-    let k = c .before .before in
-    c .refused2 .ensures
-    ∙ transfer-cedent _ _ _ _ (is-open k) (ap not (sym (k .is-holder .ensures)) ∙ c .before .if2 .taken)
+abbrev to : tie.After-answer Inv-loop μ-loop Inv-loop2 μ-loop2 → ℕ
+to c = searched (asked c) .loop2 .to
 
-is-holder-requires-2 : tie.Need-is-holder-requires-2
-is-holder-requires-2 c κs = search needs
+grant : (c : tie.After-answer Inv-loop μ-loop Inv-loop2 μ-loop2)
+    → Granted (start c .args .book) (start c .args .cedent) (start c .args .assignee) (start c .args .parts) (from c) (to c) (c .answer .given .0 .0)
+grant c =
+    let e = asked c .before .before in
+    let f = e .before .before in
+    record {
+      sound = sound-book (start c);
+      here = cedent-place f;
+      there = assignee-place e;
+      holder-here = cedent-stop f;
+      holder-there = assignee-stop e;
+      remaining = told _ _ _ _ (c .answer .given .1) (asked c .transfer-answer .ensures);
+    }
 
-refused-requires-3 : tie.Need-refused-requires-3
-refused-requires-3 c κs = search needs
+most : (c : tie.After-answer Inv-loop μ-loop Inv-loop2 μ-loop2) → from c < 64
+most c = omega (arith, ceding (grant c) .below, held-most (sound-book (start c)))
 
-returns-3 : tie.Need-returns-3
-returns-3 c =
-    let k = c .before .before in
-    c .refused3 .ensures
-    ∙ transfer-assignee _ _ _ _ (is-open (by-assignee k)) (cedent-right k) (ap not (sym (k .is-holder2 .ensures)) ∙ c .before .if3 .taken)
+-- the assignee is not in the book, or it is
+last : (c : tie.Then4 Inv-loop μ-loop Inv-loop2 μ-loop2) → to (granted (c .before)) ≡ start (granted (c .before)) .args .book .count
+last c = omega (arith, c .if4 .taken)
 
-find-requires : tie.Need-find-requires
-find-requires c κs = search needs
+below : (c : tie.Else4 Inv-loop μ-loop Inv-loop2 μ-loop2) → to (granted (c .before)) < start (granted (c .before)) .args .book .count
+below c =
+    let a = granted (c .before) in
+    omega (arith, c .if4 .left, within (sound-book (start a)) _ _ (grant a .there))
 
-enum-told : tie.Need-enum-told
+place-last : (c : tie.Then4 Inv-loop μ-loop Inv-loop2 μ-loop2) → to (granted (c .before)) < 64
+place-last c = omega (arith, last c, free (grant (granted (c .before))) (last c))
+
+place-below : (c : tie.Else4 Inv-loop μ-loop Inv-loop2 μ-loop2) → to (granted (c .before)) < 64
+place-below c = omega (arith, below c, held-most (sound-book (start (granted (c .before)))))
+
+loop-holds : tie.Need-loop-holds Inv-loop μ-loop Inv-loop2 μ-loop2
+loop-holds c = (omega arith, omega arith)
+
+mul-if1 : tie.Need-mul-if1 Inv-loop μ-loop Inv-loop2 μ-loop2
+mul-if1 c = omega (arith, held-most (sound-book (by-cedent (c .before))))
+
+element-copy-out-if1 : tie.Need-element-copy-out-if1 Inv-loop μ-loop Inv-loop2 μ-loop2
+element-copy-out-if1 c = omega (arith, held-most (sound-book (by-cedent (c .before))))
+
+add-from : tie.Need-add-from Inv-loop μ-loop Inv-loop2 μ-loop2
+add-from c = omega (arith, held-most (sound-book (by-cedent (c .before .before))))
+
+loop-less : tie.Need-loop-less Inv-loop μ-loop Inv-loop2 μ-loop2
+loop-less c = omega arith
+
+loop-again : tie.Need-loop-again Inv-loop μ-loop Inv-loop2 μ-loop2
+loop-again c =
+    let l = c .before .before in
+    passed-on (sound-book (by-cedent l)) _ _ (omega (arith, c .before .loop-test .taken)) (l .loop .inv) (eqb-false _ _ (not-true _ (c .if1 .taken)))
+
+loop2-holds : tie.Need-loop2-holds Inv-loop μ-loop Inv-loop2 μ-loop2
+loop2-holds c = (omega arith, omega arith)
+
+mul-if2 : tie.Need-mul-if2 Inv-loop μ-loop Inv-loop2 μ-loop2
+mul-if2 c = omega (arith, held-most (sound-book (by-cedent (by-assignee (c .before)))))
+
+element-copy-out-if2 : tie.Need-element-copy-out-if2 Inv-loop μ-loop Inv-loop2 μ-loop2
+element-copy-out-if2 c = omega (arith, held-most (sound-book (by-cedent (by-assignee (c .before)))))
+
+add-to : tie.Need-add-to Inv-loop μ-loop Inv-loop2 μ-loop2
+add-to c = omega (arith, held-most (sound-book (by-cedent (by-assignee (c .before .before)))))
+
+loop2-less : tie.Need-loop2-less Inv-loop μ-loop Inv-loop2 μ-loop2
+loop2-less c = omega arith
+
+loop2-again : tie.Need-loop2-again Inv-loop μ-loop Inv-loop2 μ-loop2
+loop2-again c =
+    let l = c .before .before in
+    passed-on (sound-book (by-cedent (by-assignee l))) _ _ (omega (arith, c .before .loop2-test .taken)) (l .loop2 .inv) (eqb-false _ _ (not-true _ (c .if2 .taken)))
+
+mul-giver : tie.Need-mul-giver Inv-loop μ-loop Inv-loop2 μ-loop2
+mul-giver c = omega (arith, held-most (sound-book (by-cedent (by-assignee (c .before .before)))))
+
+array-copy-out-giver : tie.Need-array-copy-out-giver Inv-loop μ-loop Inv-loop2 μ-loop2
+array-copy-out-giver c = omega (arith, held-most (sound-book (by-cedent (by-assignee (c .before .before)))))
+
+transfer-answer-requires : tie.Need-transfer-answer-requires Inv-loop μ-loop Inv-loop2 μ-loop2
+transfer-answer-requires c κs =
+    let e = c .before in
+    (sound-book (by-cedent (by-assignee (e .before))), ((cedent-place (e .before .before), assignee-place e), cedent-has c))
+
+enum-known-answer : tie.Need-enum-known-answer Inv-loop μ-loop Inv-loop2 μ-loop2
+enum-known-answer c = search needs
+
+mul-giver-2 : tie.Need-mul-giver-2 Inv-loop μ-loop Inv-loop2 μ-loop2
+mul-giver-2 c = omega (arith, most (c .before))
+
+array-copy-out-giver-2 : tie.Need-array-copy-out-giver-2 Inv-loop μ-loop Inv-loop2 μ-loop2
+array-copy-out-giver-2 c = omega (arith, most (c .before))
+
+mul-positions : tie.Need-mul-positions Inv-loop μ-loop Inv-loop2 μ-loop2
+mul-positions c = omega (arith, most (granted c))
+
+array-set-from-positions : tie.Need-array-set-from-positions Inv-loop μ-loop Inv-loop2 μ-loop2
+array-set-from-positions c = omega (arith, most (granted c))
+
+mul-positions-2 : tie.Need-mul-positions-2 Inv-loop μ-loop Inv-loop2 μ-loop2
+mul-positions-2 c = omega (arith, place-last c)
+
+array-set-from-positions-2 : tie.Need-array-set-from-positions-2 Inv-loop μ-loop Inv-loop2 μ-loop2
+array-set-from-positions-2 c = omega (arith, place-last c)
+
+add-count : tie.Need-add-count Inv-loop μ-loop Inv-loop2 μ-loop2
+add-count c = omega (arith, place-last c, last c)
+
+mul-taker : tie.Need-mul-taker Inv-loop μ-loop Inv-loop2 μ-loop2
+mul-taker c = omega (arith, place-below c)
+
+array-copy-out-taker : tie.Need-array-copy-out-taker Inv-loop μ-loop Inv-loop2 μ-loop2
+array-copy-out-taker c = omega (arith, place-below c)
+
+-- two shares of one book
+add-total : tie.Need-add-total Inv-loop μ-loop Inv-loop2 μ-loop2
+add-total c =
+    let g = grant (granted (by-total c .before)) in
+    let has = share-most (ceding g) _ (ceding g .below) in
+    let takes = share-most (ceding g) _ (below (by-total c)) in
+    rw (assignee-has g (below (by-total c))) (omega (arith, has, takes, enough g))
+
+mul-positions-3 : tie.Need-mul-positions-3 Inv-loop μ-loop Inv-loop2 μ-loop2
+mul-positions-3 c = omega (arith, place-below (by-total c))
+
+array-set-from-positions-3 : tie.Need-array-set-from-positions-3 Inv-loop μ-loop Inv-loop2 μ-loop2
+array-set-from-positions-3 c = omega (arith, place-below (by-total c))
+
+enum-told : tie.Need-enum-told Inv-loop μ-loop Inv-loop2 μ-loop2
 enum-told c = search needs
 
-refused-requires-4 : tie.Need-refused-requires-4
-refused-requires-4 c κs = search needs
+returns : tie.Need-returns Inv-loop μ-loop Inv-loop2 μ-loop2
+returns c = given-last (grant (granted (c .before))) (last c)
 
-enum-known-from : tie.Need-enum-known-from
-enum-known-from c = search needs
+returns-2 : tie.Need-returns-2 Inv-loop μ-loop Inv-loop2 μ-loop2
+returns-2 c = given-between (grant (granted (by-total c .before))) (below (by-total c))
 
-refused-requires-5 : tie.Need-refused-requires-5
-refused-requires-5 c κs = search needs
-
-returns-4 : tie.Need-returns-4
-returns-4 c =
-    let f = c .before .before .before in
-    let t = passed f in
-    let k = t .before in
-    c .refused5 .ensures
-    ∙ transfer-same _ _ _ _ (is-open (by-assignee k)) (cedent-right k) (assignee-right t) (hit f .2) (omega (arith, c .before .if4 .taken))
-
-move-parts-requires : tie.Need-move-parts-requires
-move-parts-requires c κs =
-    let f = c .before .before in
-    let k = passed f .before in
-    (sound _ (asked (passed f) .pre), (not-false _ (is-open (by-assignee k)), ((hit f .0, hit f .1), λ e. omega (arith, c .if4 .left))))
-
-returns-5 : tie.Need-returns-5
-returns-5 c =
-    let m = c .before in
-    let t = by-find (m .before .before) in
-    let k = t .before in
-    let a = asked t .args in
-    let away = found-nothing (held (a .book)) (a .cedent) (sym (m .enum-told .given .1) ∙ m .before .before .find .ensures) in
-    c .refused4 .ensures ∙ transfer-unknown _ _ _ _ (is-open (by-assignee k)) (cedent-right k) (assignee-right t) away
-
-returns-6 : tie.Need-returns-6
-returns-6 c =
-    let f = c .before .before .before in
-    let t = passed f in
-    let k = t .before in
-    c .move-parts .ensures
-    ∙ transfer-other _ _ _ _ (is-open (by-assignee k)) (cedent-right k) (assignee-right t) (hit f .2) (λ e. omega (arith, c .before .if4 .left))
+returns-3 : tie.Need-returns-3 Inv-loop μ-loop Inv-loop2 μ-loop2
+returns-3 c = refused-book _ _ _ _ (c .enum-told .given .1) (c .before .before .transfer-answer .ensures)
 
 pub transfer-positions-spec : {M : Type 1} → statement M
 transfer-positions-spec =
     tie.close
     (tie.spec
-    refused-requires
-    returns
-    is-holder-requires
-    refused-requires-2
-    returns-2
-    is-holder-requires-2
-    refused-requires-3
-    returns-3
-    find-requires
+    Inv-loop
+    μ-loop
+    Inv-loop2
+    μ-loop2
+    loop-holds
+    mul-if1
+    element-copy-out-if1
+    add-from
+    loop-less
+    loop-again
+    loop2-holds
+    mul-if2
+    element-copy-out-if2
+    add-to
+    loop2-less
+    loop2-again
+    mul-giver
+    array-copy-out-giver
+    transfer-answer-requires
+    enum-known-answer
+    mul-giver-2
+    array-copy-out-giver-2
+    mul-positions
+    array-set-from-positions
+    mul-positions-2
+    array-set-from-positions-2
+    add-count
+    mul-taker
+    array-copy-out-taker
+    add-total
+    mul-positions-3
+    array-set-from-positions-3
     enum-told
-    refused-requires-4
-    enum-known-from
-    refused-requires-5
-    returns-4
-    move-parts-requires
-    returns-5
-    returns-6)
+    returns
+    returns-2
+    returns-3)

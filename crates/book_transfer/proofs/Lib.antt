@@ -1,0 +1,3 @@
+-- Facts about searches and answers of a transfer, for this crate's functions.
+mod Searches
+mod Answers
