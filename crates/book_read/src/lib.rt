@@ -28,7 +28,7 @@ pub fn position_of(book: Book, holder: u32) -> PositionAnswer
     let count = book.count;
     match find(positions, count, holder) {
         Found::At(at) => {
-            let position = book.positions[at];
+            let position = positions[at];
             PositionAnswer::Held(position)
         }
         Found::Nothing => PositionAnswer::Refused(Refusal::Holder),
@@ -48,7 +48,8 @@ pub fn position_at(book: Book, place: usize) -> PlaceAnswer
     if count <= place {
         return PlaceAnswer::Refused(Refusal::Holder);
     }
-    let position = book.positions[place];
+    let positions = book.positions;
+    let position = positions[place];
     PlaceAnswer::Placed {
         count: count,
         position: position,

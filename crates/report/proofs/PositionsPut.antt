@@ -1,4 +1,4 @@
--- The lines of a book's positions, put one by one as its places answer.
+-- The lines of a book's positions, put one by one.
 use mathlib.Core.Path.{_≡_, refl, sym, ap, _∙_}
 use mathlib.Core.Bool.{true}
 use mathlib.Core.List.{List, [], _∷_, _++_, append-nil, append-assoc}
@@ -9,51 +9,28 @@ use lib.ListN.{length, getD, take}
 use lib.Seq.{sets, length-sets, getD-take, length-take-le, take-all, take-suc}
 use Rattle.book_model.specs.declared.Book.{Book}
 use Rattle.book_model.specs.declared.Position.{Position}
-use Rattle.book_model.specs.declared.PlaceAnswer.{PlaceAnswer}
-use Rattle.book_model.specs.declared.PlaceAnswer.the-variants as place-answer
-use Rattle.book_model.specs.declared.Refusal.{Refusal}
 use Rattle.book_model.specs.Book.{held}
-use Rattle.book_model.specs.Outcome.{noPosition, placeStated}
+use Rattle.book_model.specs.Outcome.{noPosition}
 use Rattle.book_model.specs.Reached.{Reached}
-use Rattle.book_model.specs.Read.{positionAt}
-use Rattle.general_laws.proofs.Choice.{by-order}
 use Rattle.general_laws.proofs.Stores.{sets-append}
-use Rattle.book_model.proofs.Callers.{no-refusal-is-0, length-held, sound, place-beyond, place-known}
+use Rattle.book_model.proofs.Callers.{length-held, sound}
 use Rattle.report.specs.Statement.{positionLine, positionLines}
 use Rattle.report.proofs.StatementLengths.{positions-length}
 
 -- The places of an open book
 
 module _ (b : Book) (reached : Reached b) (is-open : b .opened ≡ true) where
-  held-count : length (held b) ≡ b .count
+  pub held-count : length (held b) ≡ b .count
   held-count =
       let s = sound b reached in
       length-held b (omega (arith, s .room-positions, s .when-open is-open .positions-most))
 
-  pub held-most : length (held b) ≤ 64
-  held-most = omega (arith, held-count, sound b reached .when-open is-open .positions-most)
+  pub count-most : b .count ≤ 64
+  count-most = sound b reached .when-open is-open .positions-most
 
-  module _ (k : ℕ) (r : PlaceAnswer) (stated : placeStated r ≡ positionAt b k) where
-    -- an answer is the position there
-    pub placed : (n : ℕ) (p : Position) → r ≡ place-answer.Placed n p → (k < length (held b)) × (p ≡ getD (held b) k noPosition)
-    placed n p e =
-        by-order k (b .count)
-        (λ lt. (
-          omega (arith, held-count),
-          ap (λ a. a .value .position) (ap placeStated (sym e) ∙ stated ∙ sym (place-known b k (rw is-open refl) lt))
-              ∙ sym (getD-take (b .count) (b .positions) k noPosition lt),
-        ))
-        (λ ge. absurd (omega (arith, ap (λ a. a .number) (ap placeStated (sym e) ∙ stated ∙ sym (place-beyond b k (rw is-open refl) ge)))))
-
-    -- and a refusal says that there is none
-    pub none-placed : (why : Refusal) → r ≡ place-answer.Refused why → length (held b) ≤ k
-    none-placed why e =
-        by-order k (b .count)
-        (λ lt.
-        absurd
-        (no-refusal-is-0 why
-        (ap (λ a. a .number) (ap placeStated (sym e) ∙ stated ∙ sym (place-known b k (rw is-open refl) lt)))))
-        (λ ge. omega (arith, held-count))
+  -- the position at a place in use, as the array has it
+  pub held-at : (k : ℕ) → k < b .count → getD (b .positions) k noPosition ≡ getD (held b) k noPosition
+  held-at k lt = sym (getD-take (b .count) (b .positions) k noPosition lt)
 
 -- Lines behind the B line
 

@@ -10,7 +10,6 @@ ghost use Rattle.report.specs.Statement.{totalsLine, positionLine, posit
 use crate::Reported;
 use book::Account;
 use book::Book;
-use book::PlaceAnswer;
 use book::Position;
 use book::TotalsAnswer;
 use file::LoadAnswer;
@@ -68,17 +67,13 @@ pub fn put_positions(out: &mut [u8], book: Book) -> usize
     requires { ⌜ 3089 ≤ length (now out) ⌝ }
     ensures { λ r. ⌜ (r ≡ 81 + length (positionLines (held book))) × (now (out .exit) ≡ sets (now (out .entry)) 81 (positionLines (held book))) ⌝ }
 {
+    let positions = book.positions;
+    let count = book.count;
     let mut place: usize = 0;
     let mut at = TOTALS_BYTES;
-    while place < Book::POSITIONS {
-        match book::position_at(book, place) {
-            PlaceAnswer::Placed { count: _, position } => {
-                put_position(out, at, position);
-            }
-            PlaceAnswer::Refused(_) => {
-                return at;
-            }
-        }
+    while place < count {
+        let position = positions[place];
+        put_position(out, at, position);
         place += 1;
         at += POSITION_BYTES;
     }

@@ -16,14 +16,14 @@ use Rattle.book_read.proofs.position_of.Tie as tie
 abbrev asked : tie.Else2 → tie.Start
 asked c = c .before .before .before
 
-is-open : (c : tie.Else2) → not (asked c .args .t1 .opened) ≡ false
+is-open : (c : tie.Else2) → not (asked c .args .book .opened) ≡ false
 is-open c = c .before .before .if1 .left
 
 holder-right : (c : tie.Else2) → not (isHolder (asked c .args .holder)) ≡ false
 holder-right c = ap not (sym (c .before .is-holder .ensures)) ∙ c .if2 .left
 
-open-sound : (c : tie.Else2) → OpenSound (asked c .args .t1)
-open-sound c = let s = asked c in sound (s .args .t1) (s .pre) .when-open (not-false (s .args .t1 .opened) (is-open c))
+open-sound : (c : tie.Else2) → OpenSound (asked c .args .book)
+open-sound c = let s = asked c in sound (s .args .book) (s .pre) .when-open (not-false (s .args .book .opened) (is-open c))
 
 -- The way back to the number's test
 abbrev by-find : tie.After-find → tie.Else2
@@ -34,12 +34,12 @@ abbrev passed : tie.After-at → tie.Else2
 passed c = by-find (c .before .before)
 
 hit : (c : tie.After-at)
-    → (c .at .given .0 .0 ≡ place (asked (passed c) .args .holder) (held (asked (passed c) .args .t1)))
-    × (c .at .given .0 .0 < asked (passed c) .args .t1 .count)
-    × (present (asked (passed c) .args .holder) (held (asked (passed c) .args .t1)) ≡ true)
+    → (c .at .given .0 .0 ≡ place (asked (passed c) .args .holder) (held (asked (passed c) .args .book)))
+    × (c .at .given .0 .0 < asked (passed c) .args .book .count)
+    × (present (asked (passed c) .args .holder) (held (asked (passed c) .args .book)) ≡ true)
 hit c =
     let s = asked (passed c) in
-    let b = s .args .t1 in
+    let b = s .args .book in
     let f = found-at (held b) (s .args .holder) _ (sym (c .at .given .1) ∙ c .before .before .find .ensures) in
     let n = length-held b (omega (arith, sound b (s .pre) .room-positions, open-sound (passed c) .positions-most)) in
     (f .0, omega (arith, f .1), f .2)
@@ -63,8 +63,8 @@ enum-known-at c = search needs
 mul-position : tie.Need-mul-position
 mul-position c = omega (arith, hit (c .before) .1, open-sound (passed (c .before)) .positions-most)
 
-element-copy-out-position : tie.Need-element-copy-out-position
-element-copy-out-position c = omega (arith, hit (c .before) .1, open-sound (passed (c .before)) .positions-most)
+array-copy-out-position : tie.Need-array-copy-out-position
+array-copy-out-position c = omega (arith, hit (c .before) .1, open-sound (passed (c .before)) .positions-most)
 
 enum-told : tie.Need-enum-told
 enum-told c = search needs
@@ -79,7 +79,7 @@ returns-4 : tie.Need-returns-4
 returns-4 c =
     let t = by-find (c .before .before) in
     let a = asked t .args in
-    let away = found-nothing (held (a .t1)) (a .holder) (sym (c .enum-told .given .1) ∙ c .before .before .find .ensures) in
+    let away = found-nothing (held (a .book)) (a .holder) (sym (c .enum-told .given .1) ∙ c .before .before .find .ensures) in
     position-unknown _ _ (is-open t) (holder-right t) away
 
 pub position-of-spec : {M : Type 1} → statement M
@@ -92,7 +92,7 @@ position-of-spec =
     find-requires
     enum-known-at
     mul-position
-    element-copy-out-position
+    array-copy-out-position
     enum-told
     returns-3
     returns-4)
