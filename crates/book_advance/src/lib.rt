@@ -48,7 +48,7 @@ fn held_for(position: Position, days: Day) -> Position
     ensures { λ r. ⌜ r ≡ daysHeld (days .0) position ⌝ }
 {
     let mut next = position;
-    let gain = position.share.0 * (days.0 as u64);
+    let gain = (position.share.0 as u32) * days.0;
     next.unit_days = position.unit_days + gain;
     next
 }
@@ -71,7 +71,7 @@ fn hold_days(positions: [Position; Book::POSITIONS], count: usize, days: Day) ->
     let mut held: u64 = 0;
     let mut i: usize = 0;
     while i < count {
-        held += next[i].unit_days;
+        held += next[i].unit_days as u64;
         i += 1;
     }
     let pending = Book::PARTS * (Book::SETTLEMENT_DAYS as u64)

@@ -23,7 +23,7 @@ pub fn put_refused(refusal: Refusal, zeros: u32) {
 pub fn put_position(position: Position) {
     cases::put(position.holder as u64, b' ');
     cases::put(position.share.0, b' ');
-    cases::put(position.unit_days, b' ');
+    cases::put(position.unit_days as u64, b' ');
     cases::put(position.received.0, b'\n');
 }
 

@@ -26,11 +26,11 @@ pub struct CentsChange(pub i64);
 // Share parts: 1,000,000 are the whole right.
 pub struct Parts(pub u64);
 
-// A holder's share today, its unit-days since the last settlement and the cash it has received.
+// A holder's share today, its unit-days since the last settlement and the cash it has received. Unit-days fit 32 bits, beside the holder.
 pub struct Position {
     pub holder: u32,
+    pub unit_days: u32,
     pub share: Parts,
-    pub unit_days: u64,
     pub received: Cents,
 }
 

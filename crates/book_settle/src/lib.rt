@@ -66,7 +66,7 @@ fn pay_out(book: Book, cents: Cents, taken: bool) -> [Position; Book::POSITIONS]
         let mut weights = [0u64; Book::POSITIONS];
         let mut i: usize = 0;
         while i < count {
-            weights[i] = next[i].unit_days;
+            weights[i] = next[i].unit_days as u64;
             i += 1;
         }
         // Always divided, so `split.division` needs no look: 1 to 64 positions, at most 10^11 cents, and 1,000,000 unit-days for each of the

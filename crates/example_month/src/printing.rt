@@ -101,7 +101,7 @@ fn put_position(position: Position) {
     let mut columns = [b'\n'; 46];
     put_number(&mut columns, 0, 9, position.holder as u64);
     put_number(&mut columns, 9, 9, position.share.0);
-    put_number(&mut columns, 18, 12, position.unit_days);
+    put_number(&mut columns, 18, 12, position.unit_days as u64);
     put_number(&mut columns, 30, 15, position.received.0);
     put_text(&columns);
 }

@@ -45,7 +45,7 @@ pub fn put_position(out: &mut [u8], at: usize, position: Position)
     out[at] = b'H';
     put_number(out, at + 1, 9, position.holder as u64);
     put_number(out, at + 10, 9, position.share.0);
-    put_number(out, at + 19, 12, position.unit_days);
+    put_number(out, at + 19, 12, position.unit_days as u64);
     put_number(out, at + 31, 15, position.received.0);
     out[at + 46] = b'\n';
 }

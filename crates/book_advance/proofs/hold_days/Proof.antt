@@ -99,6 +99,12 @@ mul-held c = omega (arith, c .before .before .pre .0)
 element-copy-out-held : tie.Need-element-copy-out-held Inv-loop μ-loop Inv-loop2 μ-loop2
 element-copy-out-held c = omega (arith, c .before .before .pre .0)
 
+cast-held : tie.Need-cast-held Inv-loop μ-loop Inv-loop2 μ-loop2
+cast-held c =
+    let s = c .before .before in
+    let l = c .before .loop in
+    omega (arith, s .pre .1, l .inv .2, rest-from (s .args .count) (s .args .positions) (omega (arith, s .pre .0, l .inv .1)) (l .i) (omega arith))
+
 add-held : tie.Need-add-held Inv-loop μ-loop Inv-loop2 μ-loop2
 add-held c =
     let s = c .before .before in
@@ -240,6 +246,7 @@ hold-days-spec =
     loop-holds
     mul-held
     element-copy-out-held
+    cast-held
     add-held
     add-i
     loop-less

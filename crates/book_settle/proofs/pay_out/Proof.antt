@@ -8,6 +8,7 @@ use lib.ListN.{length, take, drop, getD, set, replicate, length-map, List·getD-
 use lib.Seq.{length-take-le, getD-take, take-at}
 use Rattle.general_laws.specs.Sums.{total}
 use Rattle.general_laws.proofs.Fronts.{filled, filled-at, filled-step, filled-all}
+use Rattle.general_laws.proofs.Totals.{total-most-of}
 use Rattle.apportionment.specs.declared.Apportioned.{Apportioned}
 use Rattle.apportionment.specs.Apportionment.{part, apportioned}
 use Rattle.book_model.specs.declared.Position.{Position}
@@ -101,6 +102,15 @@ asked c = c .before .before
 known : (c : tie.Then1 Inv-loop μ-loop Inv-loop2 μ-loop2) → OpenSound (asked c .args .book)
 known c = asked c .pre .0 .when-open (asked c .pre .1 (c .if1 .taken) .0)
 
+-- no position has more unit-days than all together
+weight-most : (n : ℕ) (ps : List Position) (i : ℕ) → i < n → getD ps i noPosition .«unit_days» ≤ total (unitDays (take n ps))
+weight-most n ps i lt =
+    omega (
+      arith,
+      total-most-of (λ (p : Position). p .«unit_days») (take n ps) i noPosition refl,
+      ap (λ (p : Position). p .«unit_days») (getD-take n ps i noPosition lt),
+    )
+
 -- The way back from the second loop to where all weights are made
 
 abbrev by-weights : tie.After-portions Inv-loop μ-loop Inv-loop2 μ-loop2 → tie.After-loop Inv-loop μ-loop Inv-loop2 μ-loop2
@@ -137,6 +147,13 @@ mul-weights c = omega arith
 
 element-copy-out-weights : tie.Need-element-copy-out-weights Inv-loop μ-loop Inv-loop2 μ-loop2
 element-copy-out-weights c = omega arith
+
+cast-weights : tie.Need-cast-weights Inv-loop μ-loop Inv-loop2 μ-loop2
+cast-weights c =
+    let t = c .before .before in
+    let b = asked t .args .book in
+    let o = known t in
+    omega (arith, weight-most (b .count) (b .positions) (c .before .loop .i) (omega arith), o .days-held, o .settlement-near)
 
 mul-weights-2 : tie.Need-mul-weights-2 Inv-loop μ-loop Inv-loop2 μ-loop2
 mul-weights-2 c = omega arith
@@ -241,6 +258,7 @@ pay-out-spec =
     loop-holds
     mul-weights
     element-copy-out-weights
+    cast-weights
     mul-weights-2
     array-write-weights
     add-i

@@ -17,7 +17,7 @@ abbrev unit-days : tie.After-put-number4 → tie.After-put-number3
 unit-days c = let buffer = c .before .before in buffer .before .before
 
 abbrev share : tie.After-put-number4 → tie.After-put-number2
-share c = let buffer = unit-days c .before .before in buffer .before .before
+share c = let buffer = unit-days c .before .before .before in buffer .before .before
 
 abbrev holder : tie.After-put-number4 → tie.After-put-number
 holder c = let buffer = share c .before .before in buffer .before .before
@@ -77,6 +77,9 @@ put-number-requires-2 c κs = search needs
 add-put-number-3 : tie.Need-add-put-number-3
 add-put-number-3 c = search needs
 
+cast-put-number-2 : tie.Need-cast-put-number-2
+cast-put-number-2 c = search needs
+
 put-number-requires-3 : tie.Need-put-number-requires-3
 put-number-requires-3 c κs = search needs
 
@@ -112,6 +115,7 @@ put-position-spec =
     add-put-number-2
     put-number-requires-2
     add-put-number-3
+    cast-put-number-2
     put-number-requires-3
     add-put-number-4
     put-number-requires-4
