@@ -12,8 +12,8 @@ use Rattle.book_rate.specs.declared.Revision.{Revision}
 use Rattle.book_rate.specs.declared.Revision.the-variants as revision
 
 -- the book with another account, and so many places of another array of rates in use
-abbrev pub withArray : Book → Account → ℕ → List RateOrder → Book
-withArray b a count rates =
+abbrev pub withRateArray : Book → Account → ℕ → List RateOrder → Book
+withRateArray b a count rates =
     record {
       opened = b .opened;
       first = b .first;
@@ -31,7 +31,7 @@ withArray b a count rates =
 
 -- an order that stands is the last one in use
 abbrev pub revisionStated : Book → Revision → Outcome Changes
-revisionStated b (revision.Stands o place a) = accept (changesOf (b .account) a) (withArray b a (place + 1) (set (b .rates) place o))
+revisionStated b (revision.Stands o place a) = accept (changesOf (b .account) a) (withRateArray b a (place + 1) (set (b .rates) place o))
 revisionStated b (revision.Refused r) = refuse noChanges b r
 
 -- an order that stands has a place in the array, and the figures of both accounts fit

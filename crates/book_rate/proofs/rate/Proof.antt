@@ -17,14 +17,14 @@ use Rattle.book_model.specs.Outcome.{Outcome, Changes, answered, rateCase}
 use Rattle.book_model.specs.Rate.{changesOf}
 use Rattle.book_rate.specs.declared.Revision.{Revision}
 use Rattle.book_rate.specs.declared.Revision.the-variants as revision
-use Rattle.book_rate.specs.Revision.{withArray, revisionStated, StandsWithin}
+use Rattle.book_rate.specs.Revision.{withRateArray, revisionStated, StandsWithin}
 use Rattle.book_rate.proofs.rate.Statement.{statement}
 use Rattle.book_rate.proofs.rate.Tie as tie
 
 -- The answer and the book put together are what the order does
 module _ (b : Book) (r : Revision) (rates : List RateOrder) (count : ℕ) (a : Account) (answer : RateAnswer) where
   abbrev PutTogether : Type 0
-  PutTogether = _≡_ {A = Outcome Changes} (record { answer = rateCase answer; book = withArray b a count rates }) (revisionStated b r)
+  PutTogether = _≡_ {A = Outcome Changes} (record { answer = rateCase answer; book = withRateArray b a count rates }) (revisionStated b r)
 
   changed : (o : RateOrder) (place : ℕ) (after : Account) → r ≡ revision.Stands o place after
       → rates ≡ set (b .rates) place o → count ≡ place + 1 → a ≡ after → rateCase answer ≡ answered (changesOf (b .account) after)
