@@ -1,13 +1,14 @@
-//! The bench: ours, the archive's functions, against the reference, by time.
+//! The bench: ours, the archive's functions, against the reference, by time and by
+//! instructions.
 
 use std::hint::black_box;
 
-use reference::book::Book;
-use reference::file::load;
 use reference::statement;
 
 use crate::exported::{self, STATEMENT_BYTES};
-use crate::files;
+use crate::files::Case;
+use crate::instructions::{self, Counts};
+use crate::rows::{self, our_check, reference_check, Work};
 use crate::small_calls::{self, Inputs};
 use crate::stack;
 use crate::timing::{in_turns, Times};
@@ -17,154 +18,140 @@ Ours are the archive's functions, called from Rust; the reference is tools/refer
 compiled into the same program (opt-level 3, fat LTO, one codegen unit, no overflow
 checks). Times are nanoseconds of the thread's processor time, the medians of the rounds,
 11 or more, in which ours and the reference take turns. The ratio is ours divided by the
-reference, of these medians; behind it stands the same of the least times. Before a row
-is timed, what both give is compared. A statement is file bytes in, statement bytes out.
-The buffer that it goes into is allocated once, the same for both, and not cleared between
+reference, of these medians; behind it stands the same of the least times. Instructions
+are those that callgrind counts in one run, in a process of its own. Both are of one
+statement or call; where a row has several files or inputs, the mean. Before a row is
+timed, what both give is compared. A statement is file bytes in, statement bytes out. The
+buffer that it goes into is allocated once, the same for both, and not cleared between
 calls.
 The reference goes day by day wherever days pass, and for each rate order through all days
 since the first; rows with * consist of little else.";
 
 pub fn bench() {
     println!("{EXPLANATION}");
-    statements();
-    checks();
-    small_calls();
-    growth();
+    for table in rows::tables() {
+        heading(&table.heading);
+        let mut without_orders = None;
+        for work in table.rows {
+            let row = Row::of(work);
+            row.print();
+            match (work, &without_orders) {
+                (Work::Statements(Case::RateOrders(0)), _) => without_orders = Some(row),
+                (Work::Statements(Case::RateOrders(count)), Some(without)) => {
+                    row.print_more(without, count);
+                }
+                _ => {}
+            }
+        }
+    }
     peak_stack();
 }
 
-fn statements() {
-    heading("Statements");
-    let row = |name: &str, files: &[Vec<u8>]| {
-        print_row(name, &statement_times(files), files.len());
-    };
-    for (name, file) in long_files() {
-        row(&name, &[file]);
-    }
-    let damaged = files::damaged();
-    let (short, long): (Vec<_>, Vec<_>) = damaged
-        .iter()
-        .cloned()
-        .partition(|file| files::line_count(file) < 20);
-    row(&format!("{} damaged files", damaged.len()), &damaged);
-    row(&format!("{} of them under 20 lines", short.len()), &short);
-    row(&format!("{} of them longer", long.len()), &long);
-    for cents in [127, 64] {
-        let files = files::ten_thousand_settlements(cents);
-        row(&format!("10000 settlements of {cents} cents"), &files);
-    }
-    println!("Times are those of a statement; for a list of files, the mean of its statements.");
+/// A row's figures, of one statement or call.
+struct Row {
+    name: String,
+    times: Times,
+    counts: Option<Counts>,
 }
 
-fn checks() {
-    heading("Checks (taborumbra_check against the reference's load on an empty book)");
-    let row = |name: &str, files: &[Vec<u8>]| {
-        print_row(name, &check_times(files), files.len());
-    };
-    for (name, file) in long_files() {
-        row(&name, &[file]);
-    }
-    let damaged = files::damaged();
-    row(&format!("{} damaged files", damaged.len()), &damaged);
-    for cents in [127, 64] {
-        let files = files::ten_thousand_settlements(cents);
-        row(&format!("10000 settlements of {cents} cents"), &files);
-    }
-}
-
-/// The longest file, and the ones with the most rate orders and transfers.
-fn long_files() -> [(String, Vec<u8>); 3] {
-    let (lines, rates, transfers) = (files::LINES, files::most_rates(), files::most_transfers());
-    let (days, holders) = (files::RATE_DAYS, files::HOLDERS);
-    [
-        (format!("longest file, {lines} lines"), files::longest()),
-        (
-            format!("{rates} rate orders, {days} days *"),
-            files::rates(rates),
-        ),
-        (
-            format!("{transfers} transfers, {holders} holders"),
-            files::transfers(lines),
-        ),
-    ]
-}
-
-fn small_calls() {
-    let count = small_calls::COUNT;
-    heading(&format!(
-        "Small calls, each over {count} prepared inputs, at most one in eight of them refused"
-    ));
-    let inputs = Inputs::prepared();
-    let times = over_all(
-        &inputs.annuals,
-        small_calls::our_rate,
-        small_calls::reference_rate,
-    );
-    print_row("daily_rate", &times, count);
-    let times = over_all(
-        &inputs.sums,
-        small_calls::our_sum,
-        small_calls::reference_sum,
-    );
-    print_row("plus_days", &times, count);
-    let times = over_all(
-        &inputs.fields,
-        small_calls::our_written,
-        small_calls::reference_written,
-    );
-    print_row("write_line", &times, count);
-    let times = over_all(
-        &inputs.lines,
-        |line| small_calls::our_read(line),
-        |line| small_calls::reference_read(line),
-    );
-    print_row("read_line", &times, count);
-}
-
-fn growth() {
-    heading(&format!(
-        "Growth by lines: {} holders, then transfers",
-        files::HOLDERS
-    ));
-    for lines in [100, 300, 500, 1_000, 1_500] {
-        let times = statement_times(&[files::transfers(lines)]);
-        print_row(&format!("{lines} lines"), &times, 1);
+impl Row {
+    fn of(work: Work) -> Self {
+        let mut ways = work.ways();
+        let name = work.name(ways.count);
+        assert!((ways.agree)(), "{name}: answers differ");
+        let times = in_turns(&mut ways.ours, &mut ways.reference);
+        let inputs = ways.count as f64;
+        Row {
+            name,
+            times: Times {
+                ours: times.ours / inputs,
+                reference: times.reference / inputs,
+                our_least: times.our_least / inputs,
+                reference_least: times.reference_least / inputs,
+            },
+            counts: instructions::of_row(work).map(|counts| Counts {
+                ours: counts.ours / inputs,
+                reference: counts.reference / inputs,
+            }),
+        }
     }
 
-    heading(&format!(
-        "Growth by rate orders, behind {} settlements over {} days *",
-        files::SETTLEMENTS,
-        files::RATE_DAYS
-    ));
-    let without = statement_times(&[files::rates(0)]);
-    print_row("none", &without, 1);
-    for count in [1, 10, 25, 50, 100] {
-        let times = statement_times(&[files::rates(count)]);
-        print_row(&format!("{count} orders"), &times, 1);
+    fn print(&self) {
+        let times = &self.times;
         println!(
-            "{:32}{:12.0}{:14.0}",
-            "    an order, by the least times",
-            (times.our_least - without.our_least) / count as f64,
-            (times.reference_least - without.reference_least) / count as f64
+            "{:32}{}{} {}{}",
+            self.name,
+            figures(times.ours, times.reference),
+            ratio(times.ours, times.reference),
+            ratio(times.our_least, times.reference_least),
+            instruction_columns(self.counts)
         );
     }
 
-    heading("Growth by days: 65 settlements, each so many days after the one before *");
-    for days in [1, 7, 30, 60, 92] {
-        let times = statement_times(&[files::settlements(65, 1_000_000, days)]);
-        print_row(&format!("{days} days"), &times, 1);
+    /// What each of so many orders adds to the row without any.
+    fn print_more(&self, without: &Row, orders: u64) {
+        let more = |with: f64, without: f64| (with - without) / orders as f64;
+        let ours = more(self.times.our_least, without.times.our_least);
+        let reference = more(self.times.reference_least, without.times.reference_least);
+        let counts = match (self.counts, without.counts) {
+            (Some(with), Some(without)) => Some(Counts {
+                ours: more(with.ours, without.ours),
+                reference: more(with.reference, without.reference),
+            }),
+            _ => None,
+        };
+        println!(
+            "{:32}{}{:9}{}{}",
+            "    an order, by the least times",
+            figures(ours, reference),
+            "",
+            ratio(ours, reference),
+            instruction_columns(counts)
+        );
     }
+}
+
+fn heading(text: &str) {
+    println!("\n{text}");
+    println!(
+        "{:32}{:>22}{:17}{:>24}",
+        "", "nanoseconds", "", "instructions"
+    );
+    println!(
+        "{:32}{:>10}{:>12}{:>8}{:>9}{:>12}{:>12}{:>8}",
+        "", "ours", "reference", "ratio", "of least", "ours", "reference", "ratio"
+    );
+}
+
+fn instruction_columns(counts: Option<Counts>) -> String {
+    match counts {
+        Some(counts) => format!(
+            "  {}{}",
+            figures(counts.ours, counts.reference),
+            ratio(counts.ours, counts.reference)
+        ),
+        None => format!("{:>12}{:>12}{:>8}", "-", "-", "-"),
+    }
+}
+
+/// Small ones with a digit behind the point.
+fn figures(ours: f64, reference: f64) -> String {
+    let digits = if reference < 1_000.0 { 1 } else { 0 };
+    format!("{ours:10.digits$}{reference:12.digits$}")
+}
+
+fn ratio(ours: f64, reference: f64) -> String {
+    format!("{:8.3}", ours / reference)
 }
 
 pub fn peak_stack() {
     println!("\nPeak stack, in bytes: the deepest byte that the calls of a row wrote below their");
     println!("caller's frame, in a thread whose stack was filled with a pattern before.");
     println!("{:32}{:>12}{:>14}", "", "ours", "reference");
-    let mut kinds = long_files()
-        .map(|(name, file)| (name.replace(" *", ""), vec![file]))
-        .to_vec();
-    let damaged = files::damaged();
-    kinds.push((format!("{} damaged files", damaged.len()), damaged));
+    let kinds = [Case::Longest, Case::Rates, Case::Transfers, Case::Damaged].map(|case| {
+        let files = case.files();
+        (case.name(files.len()).replace(" *", ""), files)
+    });
     println!("Statements");
     for (name, files) in &kinds {
         let ours = |file: &Vec<u8>| our_statement(file);
@@ -239,110 +226,29 @@ fn reference_statement(file: &[u8]) {
     black_box(&out);
 }
 
-fn statement_times(files: &[Vec<u8>]) -> Times {
-    let mut out = vec![0; STATEMENT_BYTES];
-    let mut length = usize::MAX;
-    for file in files {
-        let number = exported::statement(file, &mut out, &mut length);
-        assert_eq!(number, 0);
-        let expected = statement::statement(file);
-        assert!(&out[..length] == expected.as_bytes(), "statements differ");
+#[cfg(test)]
+mod tests {
+    use super::*;
+
+    #[test]
+    fn ours_divided_by_the_reference() {
+        assert_eq!(ratio(1.0, 4.0), "   0.250");
+        assert_eq!(ratio(300.0, 200.0), "   1.500");
+        assert_eq!(figures(12.34, 999.94), "      12.3       999.9");
+        assert_eq!(figures(12.34, 1_000.0), "        12        1000");
     }
-    let buffer = std::cell::RefCell::new(out);
-    in_turns(
-        || {
-            let mut out = buffer.borrow_mut();
-            for file in files {
-                black_box(exported::statement(
-                    black_box(file),
-                    black_box(&mut out),
-                    &mut length,
-                ));
-                black_box(&length);
-                black_box(&out[..]);
-            }
-        },
-        || {
-            let mut out = buffer.borrow_mut();
-            for file in files {
-                let _ = black_box(statement::write(black_box(file), black_box(&mut out)));
-                black_box(&out[..]);
-            }
-        },
-    )
-}
 
-/// Number, line, start, end and count.
-type Checked = (u32, usize, usize, usize, usize);
-
-fn our_check(file: &[u8]) -> Checked {
-    let [mut line, mut start, mut end, mut count] = [usize::MAX; 4];
-    let number = exported::check(file, &mut line, &mut start, &mut end, &mut count);
-    (number, line, start, end, count)
-}
-
-fn reference_check(file: &[u8]) -> Checked {
-    match load(&mut Book::empty(), file) {
-        Ok(loaded) => (
-            0,
-            0,
-            loaded.part.start,
-            loaded.part.end,
-            loaded.count as usize,
-        ),
-        Err(fault) => (
-            fault.refusal.number(),
-            fault.line as usize,
-            fault.part.start,
-            fault.part.end,
-            0,
-        ),
+    /// Every line of a table is as wide as its heading, and a missing count a dash.
+    #[test]
+    fn columns() {
+        let counts = |ours, reference| Some(Counts { ours, reference });
+        assert_eq!(
+            instruction_columns(counts(2_000.0, 1_000.0)),
+            "        2000        1000   2.000"
+        );
+        assert_eq!(
+            instruction_columns(None),
+            "           -           -       -"
+        );
     }
-}
-
-fn check_times(files: &[Vec<u8>]) -> Times {
-    over_all(files, |file| our_check(file), |file| reference_check(file))
-}
-
-/// Both ways over all the inputs, after a comparison of their answers.
-fn over_all<Input, Answer: PartialEq>(
-    inputs: &[Input],
-    ours: impl Fn(&Input) -> Answer,
-    reference: impl Fn(&Input) -> Answer,
-) -> Times {
-    for input in inputs {
-        assert!(ours(input) == reference(input), "answers differ");
-    }
-    in_turns(
-        || {
-            for input in inputs {
-                black_box(ours(black_box(input)));
-            }
-        },
-        || {
-            for input in inputs {
-                black_box(reference(black_box(input)));
-            }
-        },
-    )
-}
-
-fn heading(text: &str) {
-    println!("\n{text}");
-    println!(
-        "{:32}{:>12}{:>14}{:>9}{:>9}",
-        "", "ours", "reference", "ratio", "of least"
-    );
-}
-
-/// The times of one of so many runs.
-fn print_row(name: &str, times: &Times, runs: usize) {
-    let runs = runs as f64;
-    let (ours, reference) = (times.ours / runs, times.reference / runs);
-    let digits = if reference < 1_000.0 { 1 } else { 0 };
-    println!(
-        "{name:32}{ours:12.digits$}{reference:14.digits$}{:9.3}{:9.3}",
-        times.ours / times.reference,
-        times.our_least / times.reference_least
-    );
 }

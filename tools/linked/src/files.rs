@@ -7,7 +7,7 @@ use reference::random::Random;
 use crate::damage;
 
 /// The lines of the longest file that the statement program takes whole.
-pub const LINES: u64 = 1_524;
+const LINES: u64 = 1_524;
 
 pub const HOLDERS: u32 = 64;
 pub const SETTLEMENTS: u32 = 240;
@@ -19,7 +19,7 @@ pub fn longest() -> Vec<u8> {
 }
 
 /// 64 holders, then transfers among them, and E as the last of so many lines.
-pub fn transfers(lines: u64) -> Vec<u8> {
+fn transfers(lines: u64) -> Vec<u8> {
     let mut random = Random::seeded(1_524, 0);
     let mut shares = [15_625; HOLDERS as usize];
     let mut orders = open(20140101, 6_000, 2_000, RECOGNISED) + &financings(HOLDERS);
@@ -38,7 +38,7 @@ pub fn transfers(lines: u64) -> Vec<u8> {
 }
 
 /// As many transfers as the longest file has room for, beside O, F and E lines.
-pub fn most_transfers() -> u64 {
+fn most_transfers() -> u64 {
     LINES - u64::from(1 + HOLDERS + 1)
 }
 
@@ -53,7 +53,7 @@ pub const RATE_DAYS: u32 = DAYS_A_SETTLEMENT * SETTLEMENTS;
 /// 64 holders, 240 settlements over 5,280 days, then so many rate orders. Their
 /// dates go up through the years in steps, 15 of them, and begin anew: up to 16
 /// rates are stored.
-pub fn rates(count: u64) -> Vec<u8> {
+fn rates(count: u64) -> Vec<u8> {
     const STEPS: u32 = 15;
     let mut random = Random::seeded(5_280, 0);
     let mut orders = open(20140101, 6_000, 2_000, RECOGNISED) + &financings(HOLDERS);
@@ -70,14 +70,14 @@ pub fn rates(count: u64) -> Vec<u8> {
 }
 
 /// As many rate orders as fit into the longest file.
-pub fn most_rates() -> u64 {
+fn most_rates() -> u64 {
     let others = 1 + HOLDERS + 2 * SETTLEMENTS + 1;
     LINES - u64::from(others)
 }
 
 /// 64 equal holders, and so many settlements of so many cents, each so many days
 /// after the one before.
-pub fn settlements(count: u32, cents: u64, days: u32) -> Vec<u8> {
+fn settlements(count: u32, cents: u64, days: u32) -> Vec<u8> {
     let mut orders = open(20140101, 6_000, 2_000, RECOGNISED) + &financings(HOLDERS);
     for number in 1..=count {
         orders += &advance(day(days * number));
@@ -87,7 +87,7 @@ pub fn settlements(count: u32, cents: u64, days: u32) -> Vec<u8> {
 }
 
 /// 10,000 settlements of so many cents, in files of 240 and a last one.
-pub fn ten_thousand_settlements(cents: u64) -> Vec<Vec<u8>> {
+fn ten_thousand_settlements(cents: u64) -> Vec<Vec<u8>> {
     let mut left = 10_000;
     let mut files = Vec::new();
     while left > 0 {
@@ -117,7 +117,7 @@ pub fn months(count: u32) -> Vec<u8> {
 
 /// Of document 01's example, a month, a year and the longest file 125 damaged
 /// copies each, the same in every run, and an empty file.
-pub fn damaged() -> Vec<Vec<u8>> {
+fn damaged() -> Vec<Vec<u8>> {
     let mut random = Random::seeded(501, 0);
     let mut files = vec![Vec::new()];
     for file in [PAPER.as_bytes().to_vec(), months(1), months(12), longest()] {
@@ -142,19 +142,88 @@ pub fn line_count(file: &[u8]) -> u64 {
     file.iter().filter(|&&byte| byte == b'\n').count() as u64
 }
 
-/// The files of a case by its word. They are accepted; most damaged ones are
-/// refused.
-pub fn of_case(word: &str) -> Option<Vec<Vec<u8>>> {
-    match word {
-        "paper" => Some(vec![PAPER.as_bytes().to_vec()]),
-        "longest" => Some(vec![longest()]),
-        "rates" => Some(vec![rates(most_rates())]),
-        "transfers" => Some(vec![transfers(LINES)]),
-        "damaged" => Some(damaged()),
-        "cents-127" => Some(ten_thousand_settlements(127)),
-        "cents-64" => Some(ten_thousand_settlements(64)),
-        _ => None,
+/// A case: the files of a row. They are accepted; most damaged ones are refused.
+#[derive(Clone, Copy, Debug, PartialEq, Eq)]
+pub enum Case {
+    /// Document 01's example.
+    Paper,
+    Longest,
+    /// The most rate orders.
+    Rates,
+    /// The most transfers.
+    Transfers,
+    Damaged,
+    /// Of the damaged files those under 20 lines.
+    DamagedShort,
+    DamagedLong,
+    /// 10,000 settlements of so many cents.
+    Cents(u64),
+    /// Transfers up to so many lines.
+    TransferLines(u64),
+    RateOrders(u64),
+    /// 65 settlements with so many days between.
+    Days(u32),
+}
+
+impl Case {
+    pub fn word(self) -> String {
+        match self {
+            Case::Paper => "paper".to_string(),
+            Case::Longest => "longest".to_string(),
+            Case::Rates => "rates".to_string(),
+            Case::Transfers => "transfers".to_string(),
+            Case::Damaged => "damaged".to_string(),
+            Case::DamagedShort => "damaged-short".to_string(),
+            Case::DamagedLong => "damaged-long".to_string(),
+            Case::Cents(cents) => format!("cents-{cents}"),
+            Case::TransferLines(lines) => format!("transfers-{lines}"),
+            Case::RateOrders(count) => format!("rates-{count}"),
+            Case::Days(days) => format!("days-{days}"),
+        }
     }
+
+    /// What stands before its row, given how many files it has.
+    pub fn name(self, count: usize) -> String {
+        match self {
+            Case::Paper => "document 01's example".to_string(),
+            Case::Longest => format!("longest file, {LINES} lines"),
+            Case::Rates => format!("{} rate orders, {RATE_DAYS} days *", most_rates()),
+            Case::Transfers => format!("{} transfers, {HOLDERS} holders", most_transfers()),
+            Case::Damaged => format!("{count} damaged files"),
+            Case::DamagedShort => format!("{count} of them under {SHORT} lines"),
+            Case::DamagedLong => format!("{count} of them longer"),
+            Case::Cents(cents) => format!("10000 settlements of {cents} cents"),
+            Case::TransferLines(lines) => format!("{lines} lines"),
+            Case::RateOrders(0) => "none".to_string(),
+            Case::RateOrders(count) => format!("{count} orders"),
+            Case::Days(days) => format!("{days} days"),
+        }
+    }
+
+    pub fn files(self) -> Vec<Vec<u8>> {
+        match self {
+            Case::Paper => vec![PAPER.as_bytes().to_vec()],
+            Case::Longest => vec![longest()],
+            Case::Rates => vec![rates(most_rates())],
+            Case::Transfers => vec![transfers(LINES)],
+            Case::Damaged => damaged(),
+            Case::DamagedShort => damaged_where(|lines| lines < SHORT),
+            Case::DamagedLong => damaged_where(|lines| lines >= SHORT),
+            Case::Cents(cents) => ten_thousand_settlements(cents),
+            Case::TransferLines(lines) => vec![transfers(lines)],
+            Case::RateOrders(count) => vec![rates(count)],
+            Case::Days(days) => vec![settlements(65, 1_000_000, days)],
+        }
+    }
+}
+
+/// A damaged file with fewer lines is short.
+const SHORT: u64 = 20;
+
+fn damaged_where(wanted: impl Fn(u64) -> bool) -> Vec<Vec<u8>> {
+    let mut files = damaged();
+    files.retain(|file| wanted(line_count(file)));
+    files
 }
 
 #[cfg(test)]

@@ -1,12 +1,10 @@
-//! One run of a case, for a profiler: collect what happens in `measured`.
+//! One run of a row, for a profiler: collect what happens in `measured`.
 
 use std::hint::black_box;
 
-use reference::statement;
+use crate::rows::Work;
 
-use crate::exported::{self, STATEMENT_BYTES};
-
-#[derive(Clone, Copy, PartialEq, Eq)]
+#[derive(Clone, Copy, Debug, PartialEq, Eq)]
 pub enum Side {
     Ours,
     Reference,
@@ -20,32 +18,30 @@ impl Side {
             _ => None,
         }
     }
-}
 
-/// A statement of each file. Answers the bytes of them all.
-pub fn once(files: &[Vec<u8>], side: Side) -> usize {
-    if side == Side::Reference {
-        make_ready(files); // the calendar and the rates
-    }
-    let mut out = vec![0; STATEMENT_BYTES];
-    let lengths = files.iter().map(|file| measured(file, side, &mut out));
-    lengths.sum()
-}
-
-fn make_ready(files: &[Vec<u8>]) {
-    for file in files {
-        black_box(statement::statement(file));
-    }
-}
-
-#[inline(never)]
-fn measured(file: &[u8], side: Side, out: &mut [u8]) -> usize {
-    match side {
-        Side::Ours => {
-            let mut length = 0;
-            exported::statement(file, out, &mut length);
-            length
+    pub fn word(self) -> &'static str {
+        match self {
+            Side::Ours => "ours",
+            Side::Reference => "reference",
         }
-        Side::Reference => statement::write(file, out).expect("a buffer long enough"),
     }
+}
+
+/// The work over all inputs of a row. Answers how many they are.
+pub fn once(work: Work, side: Side) -> usize {
+    let mut ways = work.ways();
+    let run = match side {
+        Side::Ours => &mut ways.ours,
+        Side::Reference => &mut ways.reference,
+    };
+    run(); // the reference's calendar and rates are made when first asked for
+    measured(run);
+    ways.count
+}
+
+/// The answer stands behind the run, so that the run isn't left by a jump.
+#[inline(never)]
+fn measured(run: &mut dyn FnMut()) -> bool {
+    run();
+    black_box(true)
 }
