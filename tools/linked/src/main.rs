@@ -1,5 +1,5 @@
 //! Links the archive of exported functions, compares it with tools/reference and
-//! times both. See README.md.
+//! measures both. See README.md.
 
 mod bench;
 mod call;

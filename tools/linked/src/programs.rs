@@ -8,7 +8,7 @@ use std::process::{Command, Stdio};
 use std::sync::atomic::{AtomicUsize, Ordering};
 use std::time::Duration;
 
-use crate::files::Case;
+use crate::files::{Case, SETTLEMENTS};
 use crate::instructions;
 
 /// Writes the files of a case into a folder, numbered from 1.
@@ -50,8 +50,10 @@ pub fn second_caller(statement: &Path, often: &Path) {
             "statements differ"
         );
         let counts = [statement, often].map(|program| count_beyond(program, file, &empty));
-        let name = case.name(files.len()).replace(" *", "");
-        let name = name.replace("10000", "240"); // those of the first file
+        let name = match case {
+            Case::Cents(cents) => format!("{SETTLEMENTS} settlements of {cents} cents"),
+            _ => case.name(files.len()).replace(" *", ""),
+        };
         println!("{name:32}{}", columns(counts));
     }
 }
@@ -69,7 +71,7 @@ const CENTS: [u64; 2] = [64, 127];
 struct Settling<'a> {
     name: String,
     program: &'a Path,
-    input: PathBuf,
+    input: &'a Path,
     /// On this input and on an empty file.
     least: [Duration; 2],
     count: Option<f64>,
@@ -86,38 +88,32 @@ const ROUNDS: usize = 41;
 
 /// 10,000 settlements of one book by `often`, ours and that of an earlier commit.
 /// The ratio is to 64 cents, the earlier one's if there is one.
-pub fn settling(ours: &Path, base: Option<&Path>) {
+pub fn settling(ours: &Path, before: Option<&Path>) {
     let folder = Folder::new();
     let empty = folder.file("empty", b"");
-    let mut programs = vec![("ours", ours)];
-    programs.extend(base.map(|base| ("before", base)));
-    programs.reverse();
+    let inputs =
+        CENTS.map(|cents| folder.file(&format!("{cents}"), format!("{cents}\n").as_bytes()));
+    let earlier = before.map(|before| ("before", before));
     let mut rows = Vec::new();
-    for (whose, program) in programs {
-        for cents in CENTS {
-            let input = folder.file(&format!("{cents}"), format!("{cents}\n").as_bytes());
-            let count = count_beyond(program, &input, &empty);
+    for (whose, program) in earlier.into_iter().chain([("ours", ours)]) {
+        for (cents, input) in CENTS.iter().zip(&inputs) {
+            assert!(output(program, input) == output(ours, input), "sums differ");
             rows.push(Settling {
                 name: format!("{whose}, {cents} cents"),
                 program,
                 input,
                 least: [Duration::MAX; 2],
-                count,
+                count: count_beyond(program, input, &empty),
             });
-        }
-    }
-    if let [before, .., ours] = &rows[..] {
-        let (before, ours) = (before.program, ours.program);
-        for row in &rows {
-            assert!(output(before, &row.input) == output(ours, &row.input));
         }
     }
     for _ in 0..ROUNDS {
         for row in &mut rows {
-            let Settling { program, input, .. } = row;
-            let [on_input, on_empty] = &mut row.least;
-            *on_input = (*on_input).min(processor_time(program, input));
-            *on_empty = (*on_empty).min(processor_time(program, &empty));
+            let [on_input, on_empty] = row.least;
+            row.least = [
+                on_input.min(processor_time(row.program, row.input)),
+                on_empty.min(processor_time(row.program, &empty)),
+            ];
         }
     }
     print_settling(&rows);
