@@ -1,5 +1,4 @@
 -- The invariant: the lines of the places passed are in the buffer, and the next goes behind them.
-use borrow.Author.Needs.{needs}
 use native.Mathlib.Omega.{arith}
 use Prim.Native.Nat.{_-_}
 use lib.ListN.{take}
