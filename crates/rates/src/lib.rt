@@ -1,4 +1,6 @@
 // The daily rate of an annual rate (document 01, "Daily rate"; document 02, Req 02), from a table whose rule is proved of every entry.
+#![tactic(auto)]
+
 mod table;
 
 ghost use Rattle.std.specs.Prelude.{◌≡◌};
