@@ -44,7 +44,7 @@ pub fn accrue(account: Account, daily: u64, days: Day) -> Reckoned
 }
 
 // The account on a day, and the place of the order that holds up to it; or that the orders on the way are no schedule.
-#[derive(Drop)]
+#[derive(Clone, Copy)]
 pub struct Elapsed {
     pub account: Account,
     pub at: usize,

@@ -1,5 +1,7 @@
 // The account of a right (document 01, "Advance", "Settle" and "Rate"): interest accrues by days, a settlement pays interest first, and
 // rates and settlements lead to the account of a day. Every entry takes any numbers, and answers `OutOfRange` where they are no account.
+#![tactic(auto)]
+
 mod accrual;
 mod paying;
 mod ranges;
@@ -10,21 +12,21 @@ pub use crate::paying::{interest_of, pay};
 pub use crate::replaying::replay;
 
 // Money, in whole cents.
-#[derive(Drop)]
+#[derive(Clone, Copy)]
 pub struct Cents(pub u64);
 
 // A day of the right, counted from its first day, day 0; or a count of days.
-#[derive(Drop)]
+#[derive(Clone, Copy)]
 pub struct Day(pub u32);
 
-#[derive(Drop)]
+#[derive(Clone, Copy)]
 pub struct Settlement {
     pub day: Day,
     pub cents: Cents,
 }
 
 // An annual rate, in thousandths of a percent, from its first day on; and its daily rate, in units of 1/10^10, which follows from it.
-#[derive(Drop)]
+#[derive(Clone, Copy)]
 pub struct RateOrder {
     pub first: Day,
     pub annual: u64,
@@ -32,7 +34,7 @@ pub struct RateOrder {
 }
 
 // The money of a right: the fraction of a cent of interest due is in units of 1/10^10.
-#[derive(Drop)]
+#[derive(Clone, Copy)]
 pub struct Account {
     pub outstanding: Cents,
     pub due: Cents,
@@ -59,7 +61,7 @@ impl Account {
 }
 
 // An account; or a settlement is over due plus outstanding; or the numbers given are no account, rate or day of one.
-#[derive(Drop)]
+#[derive(Clone, Copy)]
 pub enum Reckoned {
     Standing(Account),
     Overpaid,
