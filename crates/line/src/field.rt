@@ -5,7 +5,7 @@ ghost use Rattle.line.specs.declared.field.Field.TheVariants.{Blank};
 ghost use Rattle.line.specs.Field.{space, field_at, symbol_of, padded, justified};
 
 // What a field's columns are.
-#[derive(Drop)]
+#[derive(Clone, Copy)]
 pub enum Field {
     Blank,
     Number(u64),

@@ -1,4 +1,6 @@
 // One line of an order file (document 01, "Order file"): read as its fields, and written from them.
+#![tactic(auto)]
+
 mod field;
 mod line;
 mod write;
@@ -13,7 +15,7 @@ pub use crate::line::read_line;
 pub use crate::write::{put_number, write_line};
 
 // A line's fields: the letter's byte, the date and the three numbers. One that the letter doesn't use is 0.
-#[derive(Drop)]
+#[derive(Clone, Copy)]
 pub struct Fields {
     pub letter: u8,
     pub date: u32,
@@ -22,7 +24,7 @@ pub struct Fields {
     pub third: u64,
 }
 
-#[derive(Drop)]
+#[derive(Clone, Copy)]
 pub enum ReadAnswer {
     Read(Fields),
     Malformed,
@@ -40,7 +42,7 @@ impl ReadAnswer {
     }
 }
 
-#[derive(Drop)]
+#[derive(Clone, Copy)]
 pub enum WriteAnswer {
     Written,
     Malformed,

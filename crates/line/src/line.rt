@@ -29,6 +29,7 @@ pub fn known(date: bool, first: bool, second: bool, third: bool) -> Uses
     }
 }
 
+#[tactic(auto, unfolding(crate::specs::Line::uses_of))]
 pub fn uses_for(letter: u8) -> Uses
     ensures { result ≡ uses_of letter }
 {
@@ -92,6 +93,7 @@ pub fn is_formed(u: Uses, date: Field, first: Field, second: Field, third: Field
 }
 
 // The fields of a letter that uses u, if they are formed. Numbers of up to nine columns fit 32 bits.
+#[tactic(auto, unfolding(crate::specs::Line::assembled_of))]
 pub fn assembled(
     letter: u8,
     u: Uses,
@@ -120,6 +122,7 @@ pub fn assembled(
 }
 
 // Any bytes: the fields of a well-formed line, or that it is malformed.
+#[tactic(auto, unfolding(crate::specs::Line::line_of, crate::specs::Line::columns_of))]
 pub fn read_line(line: &[u8]) -> ReadAnswer
     ensures { read_stated result ≡ line_of line.now }
 {

@@ -25,6 +25,7 @@ pub fn takes(used: bool, limit: u64, n: u64) -> bool
 }
 
 // Whether the fields make a line.
+#[tactic(auto, unfolding(crate::specs::Write::writable, crate::specs::Write::fits_all))]
 pub fn can_write(f: Fields) -> bool
     ensures { result ≡ writable f }
 {
@@ -45,6 +46,7 @@ pub fn can_write(f: Fields) -> bool
 }
 
 // Writes a field's columns: its number, or spaces.
+#[tactic(auto, unfolding(crate::specs::Write::field_bytes))]
 pub fn write_field(buf: &mut [u8], at: usize, width: usize, used: bool, n: u64)
     requires { (at + width ≤ length buf.old) × (0 < width) }
     ensures { buf.new ≡ sets buf.old at (field_bytes used width n) }
@@ -71,6 +73,7 @@ pub fn put_line(buf: &mut [u8], f: Fields)
 }
 
 // The line in the buffer's first 43 bytes; a refusal leaves the buffer as it was.
+#[tactic(auto, using(crate::proofs::LineStores::stored_in_front), unfolding(crate::specs::Write::written_of))]
 pub fn write_line(buf: &mut [u8], f: Fields) -> WriteAnswer
     ensures { (write_stated result ≡ (written_of f buf.old).0) × (buf.new ≡ (written_of f buf.old).1) }
 {
