@@ -1,11 +1,15 @@
 // What the programs that run test vectors share: numbers and bytes read from their input, numbers printed, digests, and a filled buffer.
+#![tactic(auto)]
+
 mod digests;
 mod filling;
+mod input;
 mod printing;
 mod reading;
 
 pub use crate::digests::{digest, mixed};
 pub use crate::filling::fill;
+pub use crate::input::read_full;
 pub use crate::printing::{put, put_signed};
 pub use crate::reading::{bytes_at, number_at};
 

@@ -1,10 +1,10 @@
 // Numbers printed. No contract can say what is printed.
-use libc::STDOUT_FILENO;
+use std::io;
 
 // Prints a number and the byte behind it.
-pub fn put(value: u64, end: u8) {
-    io::print_decimal(STDOUT_FILENO, value);
-    io::write_all(STDOUT_FILENO, &[end]);
+pub fn put(rt: &impl Print, value: u64, end: u8) -> io::Result<()> {
+    rt.print(value)?;
+    rt.write_all(&[end])
 }
 
 // A signed number without its sign. One less fits an i64, whatever the number.
@@ -16,9 +16,9 @@ fn size(value: i64) -> u64 {
 }
 
 // Prints a signed number and the byte behind it.
-pub fn put_signed(value: i64, end: u8) {
+pub fn put_signed(rt: &impl Print, value: i64, end: u8) -> io::Result<()> {
     if value < 0 {
-        io::write_all(STDOUT_FILENO, b"-");
+        rt.write_all(b"-")?;
     }
-    put(size(value), end);
+    put(rt, size(value), end)
 }

@@ -7,6 +7,7 @@ use crate::{Bytes, Number};
 // The greatest u64.
 const GREATEST: u64 = 18446744073709551615;
 
+#[tactic(auto, unfolding(crate::specs::Cases::is_digit))]
 fn is_digit(byte: u8) -> bool
     ensures { result ≡ is_digit byte }
 {

@@ -1,5 +1,8 @@
 // Prints the daily rate of each annual rate, and of some that are refused: ANNUAL NUMBER DAILY.
+#![tactic(auto)]
+
 use rates::DailyRate;
+use std::io;
 
 // Annual rates over the greatest.
 const REFUSED: [u64; 7] = [
@@ -13,30 +16,32 @@ const REFUSED: [u64; 7] = [
 ];
 
 // The line of an annual rate.
-fn put_rate(annual: u64) {
-    cases::put(annual, b' ');
+fn put_rate(rt: &impl Print, annual: u64) -> io::Result<()> {
+    cases::put(rt, annual, b' ')?;
     let answer = rates::daily_rate(annual);
-    cases::put(answer.number() as u64, b' ');
-    match answer {
-        DailyRate::Daily(daily) => cases::put(daily, b'\n'),
-        DailyRate::Refused => cases::put(0, b'\n'),
-    }
+    let value = match answer {
+        DailyRate::Daily(daily) => daily,
+        DailyRate::Refused => 0,
+    };
+    cases::put(rt, answer.number() as u64, b' ')?;
+    cases::put(rt, value, b'\n')
 }
 
 // The lines of the refused rates.
-fn put_refused() {
+fn put_refused(rt: &impl Print) -> io::Result<()> {
     let mut i: usize = 0;
     while i < 7 {
-        put_rate(REFUSED[i]);
+        put_rate(rt, REFUSED[i])?;
         i += 1;
     }
+    Ok(())
 }
 
-fn main() {
+fn main(rt: HostRuntime) -> io::Result<()> {
     let mut annual: u64 = 0;
     while annual <= rates::GREATEST {
-        put_rate(annual);
+        put_rate(&rt, annual)?;
         annual += 1;
     }
-    put_refused();
+    put_refused(&rt)
 }
