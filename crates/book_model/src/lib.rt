@@ -1,6 +1,8 @@
 // What the calls of a book share (document 01, "The book"): the book's type, the empty book, the limits, the answers and their numbers, and a few
 // readings of stored lists. A program names the crate `book`, which passes types and calls on. The fields are public for the calls; a book that
 // anyone else put together is not known to be `Reached`.
+#![tactic(auto)]
+
 mod accounting;
 mod days;
 mod numbers;
@@ -16,15 +18,15 @@ pub use crate::positions::{Found, find, is_holder};
 pub use account::{Account, Cents, Day, RateOrder, Settlement};
 
 // A difference of money, in whole cents.
-#[derive(Drop)]
+#[derive(Clone, Copy)]
 pub struct CentsChange(pub i64);
 
 // Share parts: 1,000,000 are the whole right.
-#[derive(Drop)]
+#[derive(Clone, Copy)]
 pub struct Parts(pub u64);
 
 // A holder's share today, its unit-days since the last settlement and the cash it has received. Unit-days fit 32 bits, beside the holder.
-#[derive(Drop)]
+#[derive(Clone, Copy)]
 pub struct Position {
     pub holder: u32,
     pub unit_days: u32,
@@ -33,7 +35,7 @@ pub struct Position {
 }
 
 // One collection right, or none. The first day is a date; positions stand in order of first appearance.
-#[derive(Drop)]
+#[derive(Clone, Copy)]
 pub struct Book {
     pub opened: bool,
     pub first: u32,
@@ -50,7 +52,7 @@ pub struct Book {
 }
 
 // Why a call is refused, in document 01's trade words.
-#[derive(Drop)]
+#[derive(Clone, Copy)]
 pub enum Refusal {
     Unopened,
     AlreadyOpen,
@@ -92,59 +94,59 @@ impl Refusal {
     }
 }
 
-#[derive(Drop)]
+#[derive(Clone, Copy)]
 pub enum OpenAnswer {
     Accepted,
     Refused(Refusal),
 }
 
-#[derive(Drop)]
+#[derive(Clone, Copy)]
 pub struct Opened {
     pub answer: OpenAnswer,
     pub book: Book,
 }
 
 // The number of days passed.
-#[derive(Drop)]
+#[derive(Clone, Copy)]
 pub enum AdvanceAnswer {
     Passed(Day),
     Refused(Refusal),
 }
 
-#[derive(Drop)]
+#[derive(Clone, Copy)]
 pub struct Advanced {
     pub answer: AdvanceAnswer,
     pub book: Book,
 }
 
 // The cedent's remaining share.
-#[derive(Drop)]
+#[derive(Clone, Copy)]
 pub enum TransferAnswer {
     Remaining(Parts),
     Refused(Refusal),
 }
 
-#[derive(Drop)]
+#[derive(Clone, Copy)]
 pub struct Transferred {
     pub answer: TransferAnswer,
     pub book: Book,
 }
 
 // The interest and the principal that a settlement took.
-#[derive(Drop)]
+#[derive(Clone, Copy)]
 pub enum SettleAnswer {
     Taken { interest: Cents, principal: Cents },
     Refused(Refusal),
 }
 
-#[derive(Drop)]
+#[derive(Clone, Copy)]
 pub struct Settled {
     pub answer: SettleAnswer,
     pub book: Book,
 }
 
 // How a revised rate changed outstanding and interest due.
-#[derive(Drop)]
+#[derive(Clone, Copy)]
 pub enum RateAnswer {
     Revised {
         outstanding: CentsChange,
@@ -153,27 +155,27 @@ pub enum RateAnswer {
     Refused(Refusal),
 }
 
-#[derive(Drop)]
+#[derive(Clone, Copy)]
 pub struct Rated {
     pub answer: RateAnswer,
     pub book: Book,
 }
 
-#[derive(Drop)]
+#[derive(Clone, Copy)]
 pub enum PositionAnswer {
     Held(Position),
     Refused(Refusal),
 }
 
 // The position at a place in book order, and how many there are.
-#[derive(Drop)]
+#[derive(Clone, Copy)]
 pub enum PlaceAnswer {
     Placed { count: usize, position: Position },
     Refused(Refusal),
 }
 
 // Today is a date.
-#[derive(Drop)]
+#[derive(Clone, Copy)]
 pub enum TotalsAnswer {
     Totals { today: u32, account: Account },
     Refused(Refusal),

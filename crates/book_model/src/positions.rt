@@ -7,7 +7,7 @@ use crate::numbers::lesser;
 use crate::{Book, Position};
 
 // Where a holder stands among the positions.
-#[derive(Drop)]
+#[derive(Clone, Copy)]
 pub enum Found {
     At(usize),
     Nothing,
