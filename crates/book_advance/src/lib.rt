@@ -1,4 +1,6 @@
 // Advance (document 01): days pass, positions gain unit-days and interest accrues.
+#![tactic(auto)]
+
 ghost use Rattle.std.specs.Prelude.{◌≡◌, true, cond, map, ◌++◌, ◌+◌, ◌*◌, ◌≤◌, ◌<◌, ltb, take, drop};
 ghost use Rattle.general_laws.specs.Sums.{total};
 ghost use Rattle.rates.specs.Rate.{greatest_daily};
@@ -44,7 +46,7 @@ fn held_for(position: Position, days: Day) -> Position
 }
 
 // The positions after the days asked for; or as they were, where a settlement is pending.
-#[derive(Drop)]
+#[derive(Clone, Copy)]
 struct Holding {
     positions: [Position; Book::POSITIONS],
     pending: bool,
