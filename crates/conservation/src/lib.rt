@@ -1,4 +1,6 @@
 // Demand 3 as one theorem over lists of calls: the book equals the tally of document 01, to the cent. And document 01's checked examples.
+#![tactic(auto)]
+
 ghost use Rattle.conservation.specs.Conservation.{Conservation, ReachedConserved};
 ghost use Rattle.conservation.specs.Examples.{Examples, Edges};
 
