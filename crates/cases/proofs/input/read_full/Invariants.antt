@@ -1,5 +1,5 @@
 -- The bytes read stand within the buffer, and each turn reads one more at least.
-use Rattle.std.proofs.Common.{◌≡◌, ◌-◌, ◌≤◌, length}
+use Rattle.std.proofs.Common.{◌-◌, ◌≤◌, length}
 use Rattle.cases.proofs.input.read_full.Given as goal
 
 abbrev pub invariant-loop-count : goal.invariant-loop-count
