@@ -1,4 +1,6 @@
 // Gregorian dates as the numbers YYYYMMDD, from 20000101 to 21991231 (document 01, "Dates").
+#![tactic(auto)]
+
 mod civil;
 
 ghost use Rattle.std.specs.Prelude.{◌≡◌};
