@@ -29,9 +29,9 @@ capped_great t =
 -- Cases of the answer
 
 module _ (m : ℕ) (ws : List ℕ) (n : ℕ) where
-  pub no_position_lem : n ≡ 0 → refused_by Count ≡ apportioned m ws n
+  pub no_position : n ≡ 0 → refused_by Count ≡ apportioned m ws n
   unfolding apportioned
-  no_position_lem h = rw (eq-eqb n 0 h)
+  no_position h = rw (eq-eqb n 0 h)
 
   pub too_many : 64 < n → refused_by Count ≡ apportioned m ws n
   unfolding apportioned

@@ -2,8 +2,8 @@
 use Prim.Native.Nat.{ℕ, zero, suc, ◌+◌, ◌≤◌, ◌<◌}
 use native.Mathlib.Omega.{arith}
 use mathlib.Core.Path.{◌≡◌, sym, ap, ◌∙◌}
-use mathlib.Core.Bool.{Bool, true, false, cond, ◌&&◌, ◌||◌}
-use lib.Dec.{ltb, eqb}
+use mathlib.Core.Bool.{true, false, cond}
+use lib.Dec.{ltb}
 use borrow.Author.Tests.{ltb-true, lt-ltb, le-ltb, eq-eqb, ne_eqb}
 use Rattle.general_laws.specs.Sums.{count_below}
 use Rattle.general_laws.proofs.Choice.{by_order, true_not_false, ltb_same}
@@ -15,7 +15,7 @@ use Rattle.apportionment.specs.Apportionment.{comes_before, rank}
 module _ (r : ℕ → ℕ) (j k : ℕ) where
   pub greater_before : r k < r j → comes_before r j k ≡ true
   unfolding comes_before
-  greater_before h = ap (λ (t : Bool). t || (eqb (r j) (r k) && ltb j k)) (lt-ltb (r k) (r j) h)
+  greater_before h = rw (lt-ltb (r k) (r j) h)
 
   pub equal_before : r j ≡ r k → comes_before r j k ≡ ltb j k
   unfolding comes_before

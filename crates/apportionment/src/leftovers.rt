@@ -30,8 +30,8 @@ pub fn count_above(remainders: &[u32; POSITIONS], count: usize, bound: u32) -> u
 
 // The least and the greatest of the remainders.
 pub fn remainder_range(remainders: &[u32; POSITIONS], count: usize) -> Range
-    requires count_nonzero { (0 < count) × (count ≤ 64) }
-    requires by_index { (k : ℕ) → k < count → get_or remainders.now k 0 ≤ 92000000 }
+    requires places { (0 < count) × (count ≤ 64) }
+    requires remainders_small { (k : ℕ) → k < count → get_or remainders.now k 0 ≤ 92000000 }
     ensures { Between remainders.now count result.least result.greatest }
 {
     let mut least = remainders[0];
@@ -55,8 +55,8 @@ pub fn remainder_range(remainders: &[u32; POSITIONS], count: usize) -> Range
 
 // The remainder at which the leftover units run out, found by halving: 27 counts at most, and none where all are equal.
 pub fn threshold(remainders: &[u32; POSITIONS], count: usize, leftover: u64) -> u32
-    requires count_nonzero { (0 < count) × (count ≤ 64) × (leftover ≤ count) }
-    requires by_index { (k : ℕ) → k < count → get_or remainders.now k 0 ≤ 92000000 }
+    requires places { (0 < count) × (count ≤ 64) × (leftover ≤ count) }
+    requires remainders_small { (k : ℕ) → k < count → get_or remainders.now k 0 ≤ 92000000 }
     ensures { (result ≤ 92000000) × Threshold remainders.now count leftover result }
 {
     let range = remainder_range(remainders, count);
@@ -108,8 +108,8 @@ pub fn raise(
     to: usize,
     least: u32,
 )
-    requires from_le_to { (from ≤ to) × (to ≤ 64) × (length parts.old ≡ 64) }
-    requires by_index { (k : ℕ) → get_or parts.old k 0 ≤ 100000000001 }
+    requires places { (from ≤ to) × (to ≤ 64) × (length parts.old ≡ 64) }
+    requires parts_small { (k : ℕ) → get_or parts.old k 0 ≤ 100000000001 }
     ensures { parts.new ≡ list_below 64 (raised parts.old remainders.now from to least) }
 {
     let mut i = from;
@@ -127,9 +127,9 @@ pub fn hand_out(
     count: usize,
     leftover: u64,
 )
-    requires count_nonzero { (0 < count) × (count ≤ 64) × (leftover ≤ count) × (length parts.old ≡ 64) }
-    requires by_index { (k : ℕ) → k < count → get_or remainders.now k 0 ≤ 92000000 }
-    requires by_index_2 { (k : ℕ) → get_or parts.old k 0 ≤ 100000000000 }
+    requires places { (0 < count) × (count ≤ 64) × (leftover ≤ count) × (length parts.old ≡ 64) }
+    requires remainders_small { (k : ℕ) → k < count → get_or remainders.now k 0 ≤ 92000000 }
+    requires parts_small { (k : ℕ) → get_or parts.old k 0 ≤ 100000000000 }
     ensures { parts.new ≡ list_below 64 (with_extra parts.old remainders.now count leftover) }
 {
     let bound = threshold(remainders, count, leftover);

@@ -1,5 +1,7 @@
 // An amount divided by weights: quotients rounded down, and the leftover units one each to the greatest remainders, earlier first
 // among equals (the largest remainder method; document 01, "Settle").
+#![tactic(auto)]
+
 mod leftovers;
 mod quotients;
 

@@ -34,7 +34,7 @@ pub fn divide(
     remainders: &mut [u32; POSITIONS],
 ) -> u64
     requires whole { Whole amount weights.now count total }
-    requires quotients_value { (quotients.old ≡ replicate 64 0) × (remainders.old ≡ replicate 64 0) }
+    requires all_zero { (quotients.old ≡ replicate 64 0) × (remainders.old ≡ replicate 64 0) }
     ensures { Divided amount (take count weights.now) count result quotients.new remainders.new }
 {
     let mut leftover = amount;
