@@ -1,24 +1,29 @@
 // Prints the division of each case of the input: ANSWER and the 64 parts.
-use apportionment::{Division, POSITIONS};
-use libc::STDIN_FILENO;
+#![tactic(auto)]
 
-fn put_division(division: Division) {
+use apportionment::{Division, POSITIONS};
+use std::io;
+
+// The most bytes of the input.
+const INPUT: usize = 65536;
+
+fn put_division(rt: &impl Print, division: Division) -> io::Result<()> {
     match division {
-        Division::Divided => cases::put(0, b' '),
-        Division::Count => cases::put(1, b' '),
-        Division::Amount => cases::put(2, b' '),
-        Division::Weight => cases::put(3, b' '),
+        Division::Divided => cases::put(rt, 0, b' '),
+        Division::Count => cases::put(rt, 1, b' '),
+        Division::Amount => cases::put(rt, 2, b' '),
+        Division::Weight => cases::put(rt, 3, b' '),
     }
 }
 
 // The parts, and the end of the line.
-fn put_parts(parts: &[u64; POSITIONS]) {
+fn put_parts(rt: &impl Print, parts: &[u64; POSITIONS]) -> io::Result<()> {
     let mut i: usize = 0;
     while i < POSITIONS - 1 {
-        cases::put(parts[i], b' ');
+        cases::put(rt, parts[i], b' ')?;
         i += 1;
     }
-    cases::put(parts[POSITIONS - 1], b'\n');
+    cases::put(rt, parts[POSITIONS - 1], b'\n')
 }
 
 // Reads so many weights, at most 64. It answers the position behind them.
@@ -38,31 +43,32 @@ fn read_weights(text: &[u8], at: usize, count: u64, weights: &mut [u64; POSITION
 }
 
 // The line of the case at a position. It answers the position behind the case.
-fn put_case(text: &[u8], at: usize) -> usize {
+fn put_case(rt: &impl Print, text: &[u8], at: usize) -> io::Result<usize> {
     let amount = cases::number_at(text, at);
     let count = cases::number_at(text, amount.next);
     let stated = cases::number_at(text, count.next);
     let mut weights = [0u64; POSITIONS];
     let next = read_weights(text, stated.next, stated.value, &mut weights);
     let split = apportionment::apportion(amount.value, weights, count.value as usize);
-    put_division(split.division);
-    put_parts(&split.parts);
-    next
+    put_division(rt, split.division)?;
+    put_parts(rt, &split.parts)?;
+    Ok(next)
 }
 
 // The lines of the cases: their count comes first.
-fn put_cases(text: &[u8]) {
+fn put_cases(rt: &impl Print, text: &[u8]) -> io::Result<()> {
     let count = cases::number_at(text, 0);
     let mut at = count.next;
     let mut left = count.value;
     while 0 < left {
-        at = put_case(text, at);
+        at = put_case(rt, text, at)?;
         left -= 1;
     }
+    Ok(())
 }
 
-fn main() {
-    let mut buffer = io::large_buffer();
-    let n = io::read_full(STDIN_FILENO, &mut buffer);
-    put_cases(&buffer[..n]);
+fn main(rt: HostRuntime) -> io::Result<()> {
+    let mut buffer = [0u8; INPUT];
+    let n = cases::read_full(&mut rt.stdin(), &mut buffer)?;
+    put_cases(&rt, &buffer[..n])
 }

@@ -1,8 +1,13 @@
 // Prints a digest of every number of the years 1999 to 2200, and then the answers to the cases of the input.
+#![tactic(auto)]
+
 ghost use Rattle.std.specs.Prelude.{◌≤◌};
 
 use calendar::{DateSum, DayCount, DaysBetween};
-use libc::STDIN_FILENO;
+use std::io;
+
+// The most bytes of the input.
+const INPUT: usize = 65536;
 
 // The dates of a year so far, and the digest.
 #[derive(Drop)]
@@ -48,7 +53,7 @@ fn with_number(tally: Tally, x: u32) -> Tally {
 }
 
 // The line of a year. It answers the digest.
-fn put_year(year: u32, digest: u64) -> u64
+fn put_year(rt: &impl Print, year: u32, digest: u64) -> io::Result<u64>
     requires { year ≤ 2200 }
 {
     let first = year * 10000;
@@ -61,57 +66,58 @@ fn put_year(year: u32, digest: u64) -> u64
         tally = with_number(tally, first + i);
         i += 1;
     }
-    cases::put(year as u64, b' ');
-    cases::put(tally.count, b' ');
-    cases::put(tally.digest, b'\n');
-    tally.digest
+    cases::put(rt, year as u64, b' ')?;
+    cases::put(rt, tally.count, b' ')?;
+    cases::put(rt, tally.digest, b'\n')?;
+    Ok(tally.digest)
 }
 
-fn put_years() {
+fn put_years(rt: &impl Print) -> io::Result<()> {
     let mut digest: u64 = 0;
     let mut year: u32 = 1999;
     while year <= 2200 {
-        digest = put_year(year, digest);
+        digest = put_year(rt, year, digest)?;
         year += 1;
     }
+    Ok(())
 }
 
 // The number of a refusal, and no value.
-fn put_refused(number: u32, end: u8) {
-    cases::put(number as u64, b' ');
-    cases::put(0, end);
+fn put_refused(rt: &impl Print, number: u32, end: u8) -> io::Result<()> {
+    cases::put(rt, number as u64, b' ')?;
+    cases::put(rt, 0, end)
 }
 
-fn put_count(date: u32) {
+fn put_count(rt: &impl Print, date: u32) -> io::Result<()> {
     let answer = calendar::day_count(date);
     match answer {
         DayCount::Day(day) => {
-            cases::put(0, b' ');
-            cases::put(day as u64, b' ');
+            cases::put(rt, 0, b' ')?;
+            cases::put(rt, day as u64, b' ')
         }
-        DayCount::NoDate => put_refused(answer.number(), b' '),
+        DayCount::NoDate => put_refused(rt, answer.number(), b' '),
     }
 }
 
-fn put_sum(date: u32, days: u32) {
+fn put_sum(rt: &impl Print, date: u32, days: u32) -> io::Result<()> {
     let answer = calendar::plus_days(date, days);
     match answer {
         DateSum::Date(sum) => {
-            cases::put(0, b' ');
-            cases::put(sum as u64, b' ');
+            cases::put(rt, 0, b' ')?;
+            cases::put(rt, sum as u64, b' ')
         }
-        DateSum::Refused => put_refused(answer.number(), b' '),
+        DateSum::Refused => put_refused(rt, answer.number(), b' '),
     }
 }
 
-fn put_between(from: u32, to: u32) {
+fn put_between(rt: &impl Print, from: u32, to: u32) -> io::Result<()> {
     let answer = calendar::days_between(from, to);
     match answer {
         DaysBetween::Days(days) => {
-            cases::put(0, b' ');
-            cases::put_signed(days, b'\n');
+            cases::put(rt, 0, b' ')?;
+            cases::put_signed(rt, days, b'\n')
         }
-        DaysBetween::NotDates => put_refused(answer.number(), b'\n'),
+        DaysBetween::NotDates => put_refused(rt, answer.number(), b'\n'),
     }
 }
 
@@ -120,32 +126,33 @@ fn narrow(value: u64) -> u32 {
 }
 
 // The line of the case at a position. It answers the position behind the case.
-fn put_case(text: &[u8], at: usize) -> usize {
+fn put_case(rt: &impl Print, text: &[u8], at: usize) -> io::Result<usize> {
     let first = cases::number_at(text, at);
     let days = cases::number_at(text, first.next);
     let second = cases::number_at(text, days.next);
     let date = narrow(first.value);
-    cases::put(calendar::is_date(date) as u64, b' ');
-    put_count(date);
-    put_sum(date, narrow(days.value));
-    put_between(date, narrow(second.value));
-    second.next
+    cases::put(rt, calendar::is_date(date) as u64, b' ')?;
+    put_count(rt, date)?;
+    put_sum(rt, date, narrow(days.value))?;
+    put_between(rt, date, narrow(second.value))?;
+    Ok(second.next)
 }
 
 // The lines of the cases: their count comes first.
-fn put_cases(text: &[u8]) {
+fn put_cases(rt: &impl Print, text: &[u8]) -> io::Result<()> {
     let count = cases::number_at(text, 0);
     let mut at = count.next;
     let mut left = count.value;
     while 0 < left {
-        at = put_case(text, at);
+        at = put_case(rt, text, at)?;
         left -= 1;
     }
+    Ok(())
 }
 
-fn main() {
-    put_years();
-    let mut buffer = io::large_buffer();
-    let n = io::read_full(STDIN_FILENO, &mut buffer);
-    put_cases(&buffer[..n]);
+fn main(rt: HostRuntime) -> io::Result<()> {
+    put_years(&rt)?;
+    let mut buffer = [0u8; INPUT];
+    let n = cases::read_full(&mut rt.stdin(), &mut buffer)?;
+    put_cases(&rt, &buffer[..n])
 }

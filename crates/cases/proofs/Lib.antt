@@ -3,3 +3,4 @@ pub mod Steps
 pub mod DigestSteps
 pub mod FilledBytes
 pub mod CaseBytes
+pub mod ReadBytes

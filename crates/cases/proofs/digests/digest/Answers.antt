@@ -1,5 +1,5 @@
 -- One byte more, by the lemmas on a digest.
-use Rattle.std.proofs.Common.{arith, ℕ, ◌≡◌, ◌+◌, drop, refl, sym, ap, ◌∙◌}
+use Rattle.std.proofs.Common.{arith, ℕ, ◌+◌, drop, refl, sym, ap, ◌∙◌}
 use Rattle.cases.specs.Digests.{mixed_all, digest_of}
 use Rattle.cases.proofs.DigestSteps.{mixes, mixes-none}
 use Rattle.cases.proofs.digests.digest.Goals as goal

@@ -1,5 +1,5 @@
 -- One byte more, by the lemma on a filled buffer.
-use Rattle.std.proofs.Common.{arith, ◌≡◌, refl, length, rules}
+use Rattle.std.proofs.Common.{arith, refl}
 use lib.ListN.{length-set}
 use Rattle.cases.specs.Filled.{filled}
 use Rattle.cases.proofs.FilledBytes.{fills}

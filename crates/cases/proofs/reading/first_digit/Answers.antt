@@ -1,5 +1,5 @@
 -- Each answer by the lemmas on skipped bytes.
-use Rattle.std.proofs.Common.{arith, ◌≡◌, ◌+◌, sym, ◌∙◌}
+use Rattle.std.proofs.Common.{arith, sym, ◌∙◌}
 use Rattle.cases.proofs.Steps.{skips, skips-none, skips_to_end}
 use Rattle.cases.proofs.reading.first_digit.Goals as goal
 

@@ -1,6 +1,6 @@
 -- Each answer by the lemmas on the number.
-use Rattle.std.proofs.Common.{arith, ℕ, ◌≡◌, ◌+◌, ◌-◌, ◌≤◌, Bool, true, false, slice_index_or, sym, ap, ◌∙◌}
-use Rattle.cases.specs.Cases.{greatest, number_from, number_at, is_digit}
+use Rattle.std.proofs.Common.{arith, ℕ, ◌+◌, sym, ap, ◌∙◌}
+use Rattle.cases.specs.Cases.{number_from, number_at}
 use Rattle.cases.proofs.Steps.{in_range, reads, stops, ends}
 use Rattle.cases.proofs.reading.number_at.Goals as goal
 

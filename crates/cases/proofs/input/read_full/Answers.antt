@@ -1,0 +1,14 @@
+-- One read more, by the lemma on the buffer's front.
+use Rattle.std.proofs.Common.{rules, subst, sym}
+use Rattle.std.specs.Io.KnownBytes.{Consumes}
+use Rattle.std.proofs.KnownBytes.{Consumes-trans}
+use Rattle.cases.proofs.ReadBytes.{take-put}
+use Rattle.cases.proofs.input.read_full.Goals as goal
+
+pub loop-count-preserved : goal.loop-count-preserved
+loop-count-preserved g c =
+    let l = c.loop-count in
+    let read = c.in_ok-read.ensures in (
+      search rules,
+      subst (Consumes _ _) (sym (take-put _ _ _ _ _ l.invariant.0 read.bound.0)) (Consumes-trans _ _ _ _ _ l.invariant.1 read.bytes.0),
+    )
