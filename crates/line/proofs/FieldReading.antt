@@ -75,6 +75,11 @@ module _ (s : List ℕ) (at : ℕ) where
   unfolding field_at
   zero-column i e c = rw (add-one, e, c)
 
+  pub zero_read : (i w : ℕ) → i < w → w ≤ i + 1 → field_at s at i ≡ Blank → get_or s (at + i) 0 ≡ 48 → field_at s at w ≡ Number 0
+  zero_read i w h k e c =
+      let m : i + 1 ≡ w = omega arith in
+      rw m at (zero-column i e c)
+
   pub zero_alone : (i w : ℕ) → i < w → field_at s at i ≡ Number 0 → field_at s at w ≡ Bad
   unfolding field_at
   zero_alone i w h e = bad_stays (suc i) w h (ap (λ (f : Field). step_of f (get_or s (at + i) 0)) e)

@@ -28,6 +28,7 @@ pub fn blanks(s: &[u8], at: usize, width: usize) -> usize
 }
 
 // The field of `width` columns from `at` on whose first `from` are spaces and the next one isn't: digits up to its end, without a leading 0.
+#[tactic(auto, using(crate::proofs::FieldReading::zero_read))]
 pub fn digits(s: &[u8], at: usize, from: usize, width: usize) -> Field
     requires width_in_bounds { (at + width ≤ length s.now) × (width ≤ 18) × (from < width) }
     requires from_value { (field_at s.now at from ≡ Blank) × (get_or s.now (at + from) 0 ≡ space → ⊥) }

@@ -1,4 +1,6 @@
 // The lines of an order file (document 01, "Order file"): where they begin and end, and the reader that moves over them.
+#![tactic(auto)]
+
 mod position;
 mod reading;
 

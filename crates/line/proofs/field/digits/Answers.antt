@@ -6,15 +6,10 @@ use Rattle.line.proofs.field.digits.Goals as goal
 pub returns-then-from-width : goal.returns-then-from-width
 returns-then-from-width c =
     let a = c.args in
+    let zero : get_or a.s.now (a.at + a.from) 0 ≡ 48 = omega arith in
     sym
     (zero_alone a.s.now a.at (a.from + 1) a.width (omega arith)
-    (zero-column a.s.now a.at a.from c.requires.from_value.0 c.if-s-at-eq48.true))
-
-pub returns-then-s-at-eq48 : goal.returns-then-s-at-eq48
-returns-then-s-at-eq48 c =
-    let a = c.args in
-    let e : a.from + 1 ≡ a.width = omega arith in
-    sym (rw e at (zero-column a.s.now a.at a.from c.requires.from_value.0 c.if-s-at-eq48.true))
+    (zero-column a.s.now a.at a.from c.requires.from_value.0 zero))
 
 pub returns-then-c-lt48 : goal.returns-then-c-lt48
 returns-then-c-lt48 c =
@@ -48,5 +43,6 @@ pub loop-i-preserved : goal.loop-i-preserved
 loop-i-preserved c =
     let a = c.args in
     let l = c.loop-i in
-    let pos = digit_positive l.n (get_or a.s.now (a.at + l.i) 0) c.if-c-lt48.false (λ z. rw (l.invariant.2 z) c.if-s-at-eq48.false) in
+    let first : get_or a.s.now (a.at + a.from) 0 ≡ 48 → ⊥ = λ e. omega arith in
+    let pos = digit_positive l.n (get_or a.s.now (a.at + l.i) 0) c.if-c-lt48.false (λ z. rw (l.invariant.2 z) first) in
     (omega arith, digit_column a.s.now a.at l.i l.n l.invariant.1 c.if-c-lt48.false c.if-c-gt57.false pos, λ z. absurd (omega arith))
