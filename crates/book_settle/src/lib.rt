@@ -1,4 +1,6 @@
 // Settle (document 01): a payment to the account, split among the positions by their unit-days.
+#![tactic(auto)]
+
 ghost use Rattle.std.specs.Prelude.{◌≡◌, true, cond, ◌++◌, ◌≤◌, ◌<◌, eqb, drop};
 ghost use Rattle.account.specs.Accrual.{paid_off, worth};
 ghost use Rattle.account.specs.Invariant.{Fits};
@@ -20,7 +22,7 @@ const GREATEST_PAYMENT: u64 = apportionment::AMOUNT;
 // What a reached book asks of its account is never out of range.
 fn pay(account: Account, cents: Cents) -> Account
     requires fits { Fits account }
-    requires cents_bound { cents.0 ≤ worth account }
+    requires owed { cents.0 ≤ worth account }
     ensures { result ≡ paid_off cents.0 account }
 {
     match account::pay(account, cents) {
@@ -45,7 +47,7 @@ fn paid_position(position: Position, cents: Cents) -> Position
 // The cents are split among the positions by their unit-days, which become 0; unless the settlement is refused.
 fn pay_out(book: Book, cents: Cents, taken: bool) -> [Position; Book::POSITIONS]
     requires sound { Sound book }
-    requires opened_value { taken ≡ true → (book.opened ≡ true) × (cents.0 ≤ 100000000000) × (last_settled book < book.today.0) }
+    requires when_taken { taken ≡ true → (book.opened ≡ true) × (cents.0 ≤ 100000000000) × (last_settled book < book.today.0) }
     ensures { result ≡ cond taken (paid_from (part cents.0 (unit_days_column (held book))) 0 (held book) ++ drop book.count book.positions) book.positions }
 {
     let mut next = book.positions;
@@ -76,7 +78,7 @@ fn pay_out(book: Book, cents: Cents, taken: bool) -> [Position; Book::POSITIONS]
 // What Settle answers, the last settlement having been on a given day.
 fn taking(book: Book, last: Day, cents: Cents) -> SettleAnswer
     requires sound { Sound book }
-    requires last_value { last.0 ≡ last_settled book }
+    requires last_day { last.0 ≡ last_settled book }
     ensures { settle_case result ≡ (settled book cents).answer }
 {
     let opened = book.opened;
