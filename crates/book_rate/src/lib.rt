@@ -1,4 +1,6 @@
 // Rate (document 01): the account becomes what it would be had the new rates held from the start.
+#![tactic(auto)]
+
 ghost use Rattle.std.specs.Prelude.{◌≡◌, true, ◌≤◌, ◌<◌, length, take};
 ghost use Rattle.book_model.specs.Book.{rates_of};
 ghost use Rattle.rates.specs.Rate.{daily_of};
@@ -16,7 +18,7 @@ use book_model::{
 use calendar::DayCount;
 
 // What an order does: it stands at a place among the stored rates, with the account that follows; or it is refused.
-#[derive(Drop)]
+#[derive(Clone, Copy)]
 enum Revision {
     Stands {
         order: RateOrder,
@@ -44,8 +46,8 @@ fn count_before(rates: [RateOrder; Book::RATES], rated: usize, day: Day) -> usiz
 
 // What is answered: after minus before.
 fn changes(before: Account, after: Account) -> RateAnswer
-    requires fits { Fits before }
-    requires fits_2 { Fits after }
+    requires fits_before { Fits before }
+    requires fits_after { Fits after }
     ensures { rate_case result ≡ answered (changes_of before after) }
 {
     let outstanding = after.outstanding.0 as i64 - before.outstanding.0 as i64;
@@ -59,11 +61,11 @@ fn changes(before: Account, after: Account) -> RateAnswer
 // An order that meets every condition before 14, at its place among the stored rates.
 fn revise(book: Book, order: RateOrder, place: usize) -> Revision
     requires sound { Sound book }
-    requires opened_value { book.opened ≡ true }
-    requires annual_bound { (order.annual ≤ 4000) × (order.daily ≡ daily_of order.annual) × (order.first.0 ≤ book.today.0) }
-    requires place_value { (place ≡ length (starting_before order.first.0 (rates_of book))) × (place < 16) }
-    ensures result_value { revision_stated book result ≡ revised book order }
-    ensures stands_within { StandsWithin book result }
+    requires is_open { book.opened ≡ true }
+    requires in_range { (order.annual ≤ 4000) × (order.daily ≡ daily_of order.annual) × (order.first.0 ≤ book.today.0) }
+    requires at_place { (place ≡ length (starting_before order.first.0 (rates_of book))) × (place < 16) }
+    ensures stated { revision_stated book result ≡ revised book order }
+    ensures within { StandsWithin book result }
 {
     // The order replaces the stored rates from its first day on.
     let mut rates = book.rates;
@@ -93,10 +95,10 @@ fn revise(book: Book, order: RateOrder, place: usize) -> Revision
 // From the date of a day count.
 fn rate_from(book: Book, count: u32, annual: u64) -> Revision
     requires sound { Sound book }
-    requires opened_value { book.opened ≡ true }
-    requires annual_bound { annual ≤ 4000 }
-    ensures result_value { revision_stated book result ≡ rated_from book count annual }
-    ensures stands_within { StandsWithin book result }
+    requires is_open { book.opened ≡ true }
+    requires in_range { annual ≤ 4000 }
+    ensures stated { revision_stated book result ≡ rated_from book count annual }
+    ensures within { StandsWithin book result }
 {
     let first = count_of(book.first);
     if count < first {
@@ -126,8 +128,8 @@ fn rate_from(book: Book, count: u32, annual: u64) -> Revision
 // What the order of a date does.
 fn revision_of(book: Book, date: u32, annual: u64) -> Revision
     requires { Reached book }
-    ensures result_value { revision_stated book result ≡ rated book date annual }
-    ensures stands_within { StandsWithin book result }
+    ensures stated { revision_stated book result ≡ rated book date annual }
+    ensures within { StandsWithin book result }
 {
     let opened = book.opened;
     if !opened {
