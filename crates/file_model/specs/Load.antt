@@ -3,7 +3,7 @@
 use Rattle.std.specs.Prelude.{ℕ, ◌+◌, Bool, true, false, cond, not, List, [], ◌∷◌, ◌++◌, leb, eqb, length, get_or}
 use Rattle.book_model.specs.declared.Book.{Book}
 use Rattle.book_model.specs.declared.Refusal.TheVariants as book-refusal
-use Rattle.book_model.specs.Call.{Opening, Call}
+use Rattle.book_model.specs.Call.{Opening}
 use Rattle.book_model.specs.Calls.{opened_with, book_after, number_of}
 use Rattle.book_model.specs.Outcome as book-outcome
 use Rattle.line.specs.Line.{malformed_number}

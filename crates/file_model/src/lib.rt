@@ -1,4 +1,6 @@
 // What a load of an order file is (document 01, "Order file"): its answers and their numbers, the definition of a load and what follows from it.
+#![tactic(auto)]
+
 ghost use Rattle.std.specs.Prelude.{◌≡◌};
 ghost use Rattle.file_model.specs.Load.{refusal_number, line_named};
 ghost use Rattle.file_model.specs.Loads.{Loads};
@@ -7,7 +9,7 @@ ghost use Rattle.file_model.specs.Examples.{Examples};
 use book_model::{Book, Refusal};
 
 // Why a file is refused, in document 01's trade words: the file itself, one of its lines, or a call of the book.
-#[derive(Drop)]
+#[derive(Clone, Copy)]
 pub enum LoadRefusal {
     Empty,
     Line,
@@ -30,7 +32,7 @@ impl LoadRefusal {
 }
 
 // The count of the lines before E, or why the file is refused and the number of the line at fault.
-#[derive(Drop)]
+#[derive(Clone, Copy)]
 pub enum LoadAnswer {
     Accepted(usize),
     Refused { refusal: LoadRefusal, line: usize },
@@ -48,7 +50,7 @@ impl LoadAnswer {
     }
 }
 
-#[derive(Drop)]
+#[derive(Clone, Copy)]
 pub struct Loaded {
     pub answer: LoadAnswer,
     pub book: Book,

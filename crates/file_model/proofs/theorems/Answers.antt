@@ -5,8 +5,7 @@ use Rattle.file_model.proofs.LoadAccepts.{calls-accepted, opening-accepted, call
 use Rattle.file_model.proofs.LoadEnds.{end_missing, empty-part}
 use Rattle.file_model.proofs.LoadFaults.{count_of_lines, count_of_end, refused_leaves, refused-names, accepted_names_none, empty-refused, cut-refused, more-refused, end_alone}
 use Rattle.file_model.proofs.LoadRuns.{from_open, from_empty, reached-kept, conserved}
-use Rattle.file_model.proofs.theorems.Statement.{statement}
-use Rattle.file_model.proofs.theorems.Tie as tie
+use Rattle.file_model.proofs.theorems.Goals as goal
 
 loads : Loads
 loads =
@@ -31,8 +30,6 @@ loads =
       end_alone = end_alone;
     }
 
-returns : tie.Need-returns
-returns c = (loads, examples)
-
-pub theorems_spec : {M : Type 1} → statement M
-theorems_spec = tie.close (tie.spec returns)
+pub returns : goal.returns
+returns c =
+    (loads, examples)
