@@ -1,4 +1,4 @@
--- Both searches pass the positions of others, and the changed positions are those of the answer.
+-- Both searches stop at their holder or behind the positions, and the changed positions are those of the answer.
 use Prim.Native.Nat.{ℕ, ◌<◌, ◌≤◌}
 use native.Mathlib.Omega.{arith}
 use mathlib.Core.Path.{◌≡◌}
@@ -11,7 +11,7 @@ use Rattle.book_model.proofs.Callers.{share-most, sound}
 use Rattle.book_transfer.proofs.Answers.{Granted, assignee_has, ceding, enough, free, given_between, given-last, refused-book}
 use Rattle.book_transfer.proofs.Searches.{held-most, passed_on, stopped, within}
 use Rattle.book_transfer.proofs.moving.transfer_positions.Goals as goal
-use Rattle.book_transfer.proofs.moving.transfer_positions.Goals.{In-Remaining, then-loop-from-test+else-positions-from, else-loop-from-test, then-loop-to-test+else-positions-to, else-loop-to-test, then-from-count, else-from-count}
+use Rattle.book_transfer.proofs.moving.transfer_positions.Goals.{In-Remaining, then-loop-from-test+else-positions-from, else-loop-from-test, then-loop-to-test+else-positions-to, else-loop-to-test}
 
 most-held : {b : Book} → Reached b → b.count ≤ 64
 most-held r = held-most (sound _ r)

@@ -1,4 +1,4 @@
--- Both searches pass the positions of others, and the changed positions are those of the answer.
+-- Both searches pass the positions of others.
 use Prim.Native.Nat.{◌-◌}
 use Rattle.book_transfer.proofs.Searches.{Passed}
 use Rattle.book_transfer.proofs.moving.transfer_positions.Given as goal
