@@ -1,4 +1,4 @@
-//! Links the archive that `rt staticlib capi` writes.
+//! Links the archive that `tools/archive` writes.
 
 fn main() {
     let here = std::env::var("CARGO_MANIFEST_DIR").expect("cargo tells the crate's folder");

@@ -1,4 +1,4 @@
-//! Links the archive that `rt staticlib capi` writes.
+//! Links the archive that `tools/archive` writes.
 
 use std::env;
 use std::path::Path;
@@ -11,7 +11,7 @@ fn main() {
     let archive = repository.join(ARCHIVE);
     println!("cargo:rerun-if-changed={}", archive.display());
     if !archive.is_file() {
-        eprintln!("no {ARCHIVE}: run rt staticlib capi");
+        eprintln!("no {ARCHIVE}: run tools/archive");
         std::process::exit(1);
     }
     let folder = archive.parent().expect("a folder");

@@ -1,4 +1,6 @@
 // Open (document 01): a right is recognised, with its holders and their shares.
+#![tactic(auto)]
+
 ghost use Rattle.std.specs.Prelude.{◌≡◌, ◌+◌, ◌≤◌, ◌<◌, length, get_or, drop};
 ghost use Rattle.general_laws.specs.Members.{all, distinct, among};
 ghost use Rattle.general_laws.specs.Sums.{total};
@@ -146,8 +148,8 @@ fn is_financing(holders: &[u32], shares: &[u32]) -> bool
 
 // The positions of the holders, in their order.
 fn place_holders(book: Book, holders: &[u32], shares: &[u32]) -> Book
-    requires positions_len { length book.positions ≡ 64 }
-    requires holders_len { (length holders.now ≡ length shares.now) × (length holders.now ≤ 64) }
+    requires positions_length { length book.positions ≡ 64 }
+    requires holders_length { (length holders.now ≡ length shares.now) × (length holders.now ≤ 64) }
     ensures { result ≡ with_held book (founded holders.now shares.now) }
 {
     let mut positions = book.positions;
@@ -178,7 +180,7 @@ fn new_book(
     holders: &[u32],
     shares: &[u32],
 ) -> Book
-    requires holders_len { (length holders.now ≡ length shares.now) × (length holders.now ≤ 64) }
+    requires holders_length { (length holders.now ≡ length shares.now) × (length holders.now ≤ 64) }
     requires annual_bound { annual ≤ 4000 }
     ensures { result ≡ new_book first term annual cents holders.now shares.now }
 {

@@ -1,4 +1,6 @@
 // The readers (document 01): a position by holder or by place, and the totals. They change nothing.
+#![tactic(auto)]
+
 ghost use Rattle.std.specs.Prelude.{◌≡◌};
 ghost use Rattle.book_model.specs.Outcome.{position_stated, place_stated, totals_stated};
 ghost use Rattle.book_model.specs.Reached.{Reached};

@@ -1,4 +1,6 @@
 // Transfer (document 01): parts of a share move from cedent to assignee.
+#![tactic(auto)]
+
 mod moving;
 
 pub use crate::moving::transfer;

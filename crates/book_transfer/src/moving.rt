@@ -11,7 +11,7 @@ ghost use Rattle.book_model.specs.Transfer.{transferred};
 use book_model::{Book, Cents, Parts, Position, Refusal, TransferAnswer, Transferred, is_holder};
 
 // What Transfer answers, and the positions and their count after it: all of the book that it may change.
-#[derive(Drop)]
+#[derive(Clone, Copy)]
 struct Moving {
     answer: TransferAnswer,
     positions: [Position; Book::POSITIONS],
@@ -30,8 +30,8 @@ fn transfer_answer(
     has: Parts,
 ) -> TransferAnswer
     requires sound { Sound book }
-    requires from_value { (from ≡ place cedent (held book)) × (to ≡ place assignee (held book)) }
-    requires has_value { from < book.count → has.0 ≡ (get_or book.positions from no_position).share.0 }
+    requires places { (from ≡ place cedent (held book)) × (to ≡ place assignee (held book)) }
+    requires has_parts { from < book.count → has.0 ≡ (get_or book.positions from no_position).share.0 }
     ensures { transfer_case result ≡ (transferred book cedent assignee parts).answer }
 {
     let opened = book.opened;

@@ -4,7 +4,6 @@ use mathlib.Core.Bool.{true}
 use mathlib.Core.List.{List, ◌++◌}
 use native.Mathlib.Omega.{arith}
 use mathlib.Core.Path.{◌≡◌, ap, ◌∙◌}
-use borrow.Author.Rules.{rules}
 use lib.ListN.{length, drop, set}
 use Rattle.rates.proofs.Callers.{accepted}
 use Rattle.rates.specs.Rate.{daily_of}
@@ -14,8 +13,8 @@ use Rattle.account.specs.declared.Day.{Day}
 use Rattle.book_model.specs.Book.{empty_book, with_held}
 use Rattle.account.specs.Opening.{opening}
 use Rattle.book_model.specs.Open.{founded, new_book}
-use Rattle.book_open.proofs.new_book.Statement.{statement}
-use Rattle.book_open.proofs.new_book.Tie as tie
+use Rattle.book_open.proofs.new_book.Goals as goal
+use Rattle.book_open.proofs.new_book.Goals.{After-daily_rate-daily}
 
 module _ (first : ℕ) (term : Day) (annual : ℕ) (cents : Cents) (hs ss : List ℕ) where
   -- the new book, with a daily rate stored
@@ -40,26 +39,17 @@ module _ (first : ℕ) (term : Day) (annual : ℕ) (cents : Cents) (hs ss : List
   unfolding new_book
   stored daily is = ap storing is
 
-daily-rate-requires : tie.Need-daily-rate-requires
-daily-rate-requires c κs = search rules
-
 -- the rate is not over, so its daily rate is the table's
-daily-is : (c : tie.After-daily-rate) → c.daily-rate.result ≡ daily_of c.before.before.before.args.annual
-daily-is c = c.daily-rate.ensures ∙ ap (λ (answer : ℕ × ℕ). answer.1) (accepted c.before.before.before.args.annual (omega (arith, c.before.before.before.requires)))
+daily-is : (c : After-daily_rate-daily) → c.daily_rate-daily.result ≡ daily_of c.args.annual
+daily-is c =
+    c.daily_rate-daily.ensures ∙ ap (λ (answer : ℕ × ℕ). answer.1) (accepted c.args.annual (omega (arith, c.requires)))
 
-empty-requires : tie.Need-empty-requires
-empty-requires c κs = search rules
-
-place-holders-requires : tie.Need-place-holders-requires
+pub place_holders-next-requires-clause-positions_length : goal.place_holders-next-requires-clause-positions_length
 unfolding empty_book
-place-holders-requires c κs = (rw c.empty.ensures, search rules)
+place_holders-next-requires-clause-positions_length c =
+    rw c.empty.ensures
 
-element-set-from-next : tie.Need-element-set-from-next
-element-set-from-next c = search rules
-
-returns : tie.Need-returns
+pub returns : goal.returns
 unfolding with_held opening empty_book
-returns c = rw (c.place-holders.ensures, c.before.empty.ensures) (stored _ _ _ _ _ _ _ (daily-is c.before.before))
-
-pub new_book_spec : {M : Type 1} → statement M
-new_book_spec = tie.close (tie.spec daily-rate-requires empty-requires place-holders-requires element-set-from-next returns)
+returns c =
+    rw (c.place_holders-next.ensures, c.empty.ensures) (stored _ _ _ _ _ _ _ (daily-is (goal.at.returns c).After-daily_rate-daily))
