@@ -1,5 +1,7 @@
 // The book of one collection right (document 01, "The book"): everything that a program calls, from the crates that have it. A book goes in by
 // value and comes back by value. That it equals the tally after every list of calls is the theorem of the crate `conservation`.
+#![tactic(auto)]
+
 pub use account::{Account, Cents, Day, RateOrder, Settlement};
 pub use book_advance::advance;
 pub use book_model::{

@@ -11,7 +11,7 @@ use line::ReadAnswer;
 const GREATEST: u64 = 4294967295;
 
 // Holders and shares so far, how many, the position behind their lines and the lines before it; or why they are refused.
-#[derive(Drop)]
+#[derive(Clone, Copy)]
 pub struct Financing {
     pub next: Next,
     pub holders: [u32; Book::POSITIONS],

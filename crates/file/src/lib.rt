@@ -1,5 +1,7 @@
 // The order file (document 01, "Order file"): loaded on a book, all or nothing, and the refused line as a part of the file. What holds of every load
 // is the theorem of the crate `file_model`.
+#![tactic(auto)]
+
 mod calls;
 mod financing;
 mod loading;

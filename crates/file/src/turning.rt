@@ -10,14 +10,14 @@ use book::{Book, Cents, Day, OpenAnswer};
 use file_model::{LoadAnswer, LoadRefusal};
 use line::Fields;
 
-#[derive(Drop)]
+#[derive(Clone, Copy)]
 pub enum Next {
     On,
     Stop(LoadAnswer),
 }
 
 // The book after a turn, the position behind its lines and the lines before that; or the load's answer.
-#[derive(Drop)]
+#[derive(Clone, Copy)]
 pub struct Turn {
     pub next: Next,
     pub book: Book,

@@ -19,8 +19,6 @@ use Rattle.file.specs.declared.turning.Turn.{Turn}
 use Rattle.file.specs.Turns.{went_on, Turns}
 use Rattle.file.proofs.LoadSteps.{load-end}
 use Rattle.file.proofs.Turnings.{order-advance, order-rate, order-transfer, order-settle, order_no_call, turn_malformed, turn_call, turn_other}
-use Rattle.file.proofs.loading.load.Statement.{statement}
-use Rattle.file.proofs.loading.load.Tie as tie
 use Rattle.file.proofs.loading.load.Reads as reads
 use Rattle.file.proofs.loading.load.Lts as lts
 use Rattle.file.proofs.calls.advance_line.Reads as advance-line-reads
@@ -31,6 +29,8 @@ use Rattle.file.proofs.loading.concluded.Reads as concluded-reads
 use Rattle.file.proofs.loading.refused.Reads as refused-reads
 use Rattle.file.proofs.turning.other_turn.Reads as other-turn-reads
 use Rattle.lines.proofs.read_from.Reads as read-from-reads
+use Rattle.file.proofs.loading.load.Goals as goal
+use Rattle.file.proofs.loading.load.Goals.{At-loop-turn, In-Read}
 
 load-empty : (b : Book) (s : List ℕ) → length s ≡ 0 → refused b 1 refusal.Empty ≡ load_of b s
 unfolding load_of
@@ -42,49 +42,31 @@ unfolding load_of
 load-lines b [] some = absurd (some refl)
 load-lines b (x ∷ s) some = refl
 
+-- TODO raw
 record Left (s : List ℕ) (before : Book) (t : Turn) : Type 0 where
   within : t.at ≤ length s
   counted : t.lines ≤ t.at
   reached : Reached t.book
   same : load_of before s ≡ load_from before t.book None t.lines (lines (drop t.at s))
 
-abbrev invariant-loop : tie.invariant-loop
-invariant-loop file book turn₀ turn = Left file book turn
+pub returns-then-file-eq0 : goal.returns-then-file-eq0
+returns-then-file-eq0 c =
+    c.refused.ensures ∙ load-empty c.args.book c.args.file.now c.if-file-eq0.true
 
-abbrev decreases-loop : tie.decreases-loop
-decreases-loop file book turn₀ turn = length file - turn.at
-
-abbrev start : tie.At-loop invariant-loop decreases-loop → tie.Start invariant-loop decreases-loop
-start c = c.before.before.before
-
-refused-requires : tie.Need-refused-requires invariant-loop decreases-loop
-refused-requires c κs = search rules
-
-returns : tie.Need-returns invariant-loop decreases-loop
-returns c =
-    let p = c.before.before.before in
-    c.refused.ensures ∙ load-empty p.args.book p.args.file.now c.before.if1.true
-
-loop-holds : tie.Need-loop-init invariant-loop decreases-loop
-loop-holds c =
-    let p = c.before.before in
+pub loop-turn-init : goal.loop-turn-init
+loop-turn-init c =
     record {
       within = omega arith;
       counted = omega arith;
-      reached = p.requires;
-      same = sym (load-lines p.args.book p.args.file.now c.if1.false);
+      reached = c.requires;
+      same = sym (load-lines c.args.book c.args.file.now c.if-file-eq0.false);
     }
-
-read-from-requires : tie.Need-read-from-requires invariant-loop decreases-loop
-read-from-requires c κs = search rules
-
--- A line that was read
 
 abbrev Read : Type 0
 Read = tie.After-read-from invariant-loop decreases-loop
 
 -- where its turn begins
-abbrev beginning : Read → tie.At-loop invariant-loop decreases-loop
+abbrev beginning : Read → At-loop-turn
 beginning r = r.before.before.before
 
 abbrev file : Read → List ℕ
@@ -113,49 +95,55 @@ inside r = subst (λ (x : ℕ). x ≤ length (file r)) (sym r.read-from.ensures.
 read_as : (r : Read) (a : ReadAnswer) → r.read-from.result.line ≡ a → read_stated a ≡ line_of (line_at (file r) (last r).at)
 read_as r a e = ap read_stated (sym e) ∙ r.read-from.ensures.0
 
-add-lines : tie.Need-overflow-add-lines invariant-loop decreases-loop
-add-lines c = omega (arith, (left c).counted, more c)
+pub overflow_add-lines : goal.overflow_add-lines
+overflow_add-lines c =
+    omega (arith, (left c).counted, more c)
 
-enum-known-line : tie.Need-enum-known-line invariant-loop decreases-loop
-enum-known-line c = search rules
+-- TODO no goal for Need-enum-known-line
+-- enum-known-line c = search rules
 
-enum_told : tie.Need-enum-told invariant-loop decreases-loop
-enum_told c = search rules
+-- TODO no goal for Need-enum-told
+-- enum_told c = search rules
 
-refused-requires-2 : tie.Need-refused-requires-2 invariant-loop decreases-loop
-refused-requires-2 c κs = search rules
-
-returns-2 : tie.Need-returns-2 invariant-loop decreases-loop
-returns-2 c =
-    let r = c.before.before.before in
-    c.refused2.ensures
+pub returns-in_default : goal.returns-in_default
+returns-in_default c =
+    c.refused-in_default.ensures
     ∙ sym
-    ((left r).same
-    ∙ turn_malformed (file r) (last r).at (last r).lines (last r).book (more r) _ r.read-from.ensures.1 _ (read_as r _ c.before.enum_told.given.1))
+    ((left (goal.at.returns-in_default c).After-read_from-step).same
+    ∙ turn_malformed (file (goal.at.returns-in_default c).After-read_from-step) (last (goal.at.returns-in_default c).After-read_from-step).at (last (goal.at.returns-in_default c).After-read_from-step).lines (last (goal.at.returns-in_default c).After-read_from-step).book (more (goal.at.returns-in_default c).After-read_from-step) _ c.read_from-step.ensures.1 _ (read_as (goal.at.returns-in_default c).After-read_from-step _ c.in_default.is))
 
 -- back from its letter
-abbrev by-letter : tie.After-known-told invariant-loop decreases-loop → Read
-by-letter c = c.before.before.before
+abbrev by-letter : (c : In-Read) → Read
+by-letter c =
+    TODO (c at After-read_from-step)
 
-advance-line-requires : tie.Need-advance-line-requires invariant-loop decreases-loop
-advance-line-requires c κs = (left (by-letter c.before)).reached
+pub advance_line-turn-requires : goal.advance_line-turn-requires
+advance_line-turn-requires c =
+    (left (by-letter (goal.at.advance_line-turn-requires c).In-68)).reached
 
-rate-line-requires : tie.Need-rate-line-requires invariant-loop decreases-loop
-rate-line-requires c κs = (left (by-letter c.before)).reached
+pub rate_line-turn-requires : goal.rate_line-turn-requires
+rate_line-turn-requires c =
+    (left (by-letter (goal.at.rate_line-turn-requires c).In-82)).reached
 
-transfer-line-requires : tie.Need-transfer-line-requires invariant-loop decreases-loop
-transfer-line-requires c κs = (left (by-letter c.before)).reached
+pub transfer_line-turn-requires : goal.transfer_line-turn-requires
+transfer_line-turn-requires c =
+    (left (by-letter (goal.at.transfer_line-turn-requires c).In-84)).reached
 
-settle-line-requires : tie.Need-settle-line-requires invariant-loop decreases-loop
-settle-line-requires c κs = (left (by-letter c.before)).reached
+pub settle_line-turn-requires : goal.settle_line-turn-requires
+settle_line-turn-requires c =
+    (left (by-letter (goal.at.settle_line-turn-requires c).In-83)).reached
 
-other-turn-requires : tie.Need-other-turn-requires invariant-loop decreases-loop
-other-turn-requires c κs =
-    let r = by-letter c.before in
+pub other_turn-turn-requires-clause-reached : goal.other_turn-turn-requires-clause-reached
+other_turn-turn-requires-clause-reached c =
+    let r = by-letter (goal.at.other_turn-turn-requires-clause-reached c).In_default-letter in
     let other = c.match2.rest in
-    ((left r).reached, (inside r, omega (arith, past r, (left r).counted), order_no_call _ other.0.0.0.1 other.0.0.1 other.0.1 other.1))
+    (left r).reached
 
--- The turn that the line made, by its letter
+pub other_turn-turn-requires-clause-at_in_bounds : goal.other_turn-turn-requires-clause-at_in_bounds
+other_turn-turn-requires-clause-at_in_bounds c =
+    let r = by-letter (goal.at.other_turn-turn-requires-clause-at_in_bounds c).In_default-letter in
+    let other = c.match2.rest in
+    (inside r, omega (arith, past r, (left r).counted), order_no_call _ other.0.0.0.1 other.0.0.1 other.0.1 other.1)
 
 abbrev Made : Type 0
 Made = tie.At-match2-branch invariant-loop decreases-loop
@@ -192,78 +180,38 @@ went_on_as c =
     let t = c.match2.turn in
     went_on (before r) (λ b. load_from (before r) b None t.lines (lines (drop t.at (file r)))) t.book
 
-enum-known-next : tie.Need-enum-known-next invariant-loop decreases-loop
-enum-known-next c = search rules
+-- TODO no goal for Need-enum-known-next
+-- enum-known-next c = search rules
 
-concluded-requires : tie.Need-concluded-requires invariant-loop decreases-loop
-concluded-requires c κs = search rules
-
-returns-3 : tie.Need-returns-3 invariant-loop decreases-loop
-returns-3 c =
-    let next = c.before.before in
-    let m = next.before.before in
-    let r = read m in
+pub returns-in-Stop : goal.returns-in-Stop
+returns-in-Stop c =
+    let r = read (goal.at.returns-in-Stop c).In-Stop-1 in
     c.concluded.ensures
-    ∙ sym ((left r).same ∙ (turned m).0.same (before r) ∙ ap (went_on_as m) next.next.given.1)
+    ∙ sym ((left r).same ∙ (turned (goal.at.returns-in-Stop c).In-Stop-1).0.same (before r) ∙ ap (went_on_as (goal.at.returns-in-Stop c).In-Stop-1) c.in-Stop.is)
 
-enum-told-2 : tie.Need-enum-told-2 invariant-loop decreases-loop
-enum-told-2 c = search rules
+-- TODO no goal for Need-enum-told-2
+-- enum-told-2 c = search rules
 
-loop-less : tie.Need-loop-smaller invariant-loop decreases-loop
-loop-less c = let t = turned c.before.before in omega (arith, t.1, t.0.within)
+pub loop-turn-smaller : goal.loop-turn-smaller
+loop-turn-smaller c =
+    let t = turned (goal.at.loop-turn-smaller c).Joined-letter in omega (arith, t.1, t.0.within)
 
-loop-again : tie.Need-loop-preserved invariant-loop decreases-loop
-loop-again c =
-    let m = c.before.before in
-    let r = read m in
-    let t = (turned m).0 in
+pub loop-turn-preserved : goal.loop-turn-preserved
+loop-turn-preserved c =
+    let r = read (goal.at.loop-turn-preserved c).Joined-letter in
+    let t = (turned (goal.at.loop-turn-preserved c).Joined-letter).0 in
     record {
       within = t.within;
       counted = t.counted;
       reached = t.reached;
-      same = (left r).same ∙ t.same (before r) ∙ ap (went_on_as m) c.enum-told2.given.1;
+      same = (left r).same ∙ t.same (before r) ∙ ap (went_on_as (goal.at.loop-turn-preserved c).Joined-letter) c.in_default-next.is;
     }
 
-add-refused : tie.Need-overflow-add-refused invariant-loop decreases-loop
-add-refused c = let l = c.before.before.before.loop.invariant in omega (arith, l.counted, l.within)
+pub overflow_add-turn : goal.overflow_add-turn
+overflow_add-turn c =
+    let l = c.loop-turn.invariant in omega (arith, l.counted, l.within)
 
-refused-requires-3 : tie.Need-refused-requires-3 invariant-loop decreases-loop
-refused-requires-3 c κs = search rules
-
-returns-4 : tie.Need-returns-4 invariant-loop decreases-loop
-returns-4 c =
-    let tested = c.before.before.before in
-    let l = tested.before.loop in
-    let p = start tested.before in
-    c.refused3.ensures
-    ∙ sym (l.invariant.same ∙ load-end p.args.file.now l.turn.at l.turn.lines p.args.book l.turn.book (omega arith))
-
-pub load_spec : {M : Type 1} → statement M
-load_spec =
-    tie.close
-    (tie.spec
-    invariant-loop
-    decreases-loop
-    refused-requires
-    returns
-    loop-holds
-    read-from-requires
-    add-lines
-    enum-known-line
-    enum_told
-    refused-requires-2
-    returns-2
-    advance-line-requires
-    rate-line-requires
-    transfer-line-requires
-    settle-line-requires
-    other-turn-requires
-    enum-known-next
-    concluded-requires
-    returns-3
-    enum-told-2
-    loop-less
-    loop-again
-    add-refused
-    refused-requires-3
-    returns-4)
+pub returns : goal.returns
+returns c =
+    c.refused-2.ensures
+    ∙ sym (c.loop-turn.invariant.same ∙ load-end c.args.file.now c.loop-turn.turn.at c.loop-turn.turn.lines c.args.book c.loop-turn.turn.book (omega arith))
