@@ -5,3 +5,4 @@ mod FinancingLines
 mod Openings
 mod Turnings
 mod CallAnswers
+mod LoadLeft
