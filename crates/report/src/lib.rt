@@ -1,4 +1,6 @@
 // The statement of a file (document 01, "Statement program"): the bytes that are printed, in a lent buffer.
+#![tactic(auto)]
+
 mod printing;
 
 ghost use Rattle.std.specs.Prelude.{◌≡◌};
@@ -8,7 +10,7 @@ ghost use Rattle.report.specs.Statements.{Statements};
 pub use crate::printing::report;
 
 // How many bytes were printed, or that the buffer is too short for some statement.
-#[derive(Drop)]
+#[derive(Clone, Copy)]
 pub enum Reported {
     Printed(usize),
     Short,

@@ -2,15 +2,6 @@
 use Rattle.account.proofs.Callers.{accrued-is, accrued-within, accrued_in_range}
 use Rattle.book_advance.proofs.accrue.Goals as goal
 
--- TODO no goal for Need-enum-known-next
--- enum-known-next c = search rules
-
--- TODO no goal for Need-enum-told
--- enum_told c = search rules
-
--- TODO no goal for Need-enum-told-2
--- enum-told-2 c = search rules
-
 pub returns-in-Standing : goal.returns-in-Standing
 returns-in-Standing c =
     accrued-is _ c.requires.fits _ _ c.requires.daily_le_greatest_daily.0 c.requires.daily_le_greatest_daily.1 _ c.accrue.ensures _ c.in-Standing.is

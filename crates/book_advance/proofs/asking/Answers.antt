@@ -37,9 +37,6 @@ pub returns-then-not-opened : goal.returns-then-not-opened
 returns-then-not-opened c =
     unopened _ _ (c.if-not-opened.true)
 
--- TODO no goal for Need-enum-known-count
--- enum-known-count c = search rules
-
 pub asking_to-requires-clause-sound : goal.asking_to-requires-clause-sound
 asking_to-requires-clause-sound c =
     c.requires
@@ -51,9 +48,6 @@ asking_to-requires-clause-opened_value c =
 pub asking_to-requires-clause-count_bound : goal.asking_to-requires-clause-count_bound
 asking_to-requires-clause-count_bound c =
     (counted c).within
-
--- TODO no goal for Need-enum-told
--- enum_told c = search rules
 
 pub returns-in-Day : goal.returns-in-Day
 returns-in-Day c =

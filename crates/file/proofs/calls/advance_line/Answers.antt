@@ -3,12 +3,6 @@ use Rattle.book_model.specs.Outcome.{advance_case}
 use Rattle.file.proofs.CallAnswers.{told, call-accepted, call-refused}
 use Rattle.file.proofs.calls.advance_line.Goals as goal
 
--- TODO no goal for Need-enum-told
--- enum_told c = search rules
-
--- TODO no goal for Need-enum-known-answer
--- enum-known-answer c = search rules
-
 pub returns-in-Passed : goal.returns-in-Passed
 returns-in-Passed c =
     call-accepted _ c.requires _ _ _ _ (told advance_case _ _ _ _ c.in-Passed.is c.advance-advanced.ensures)

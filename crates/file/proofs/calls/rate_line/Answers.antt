@@ -3,12 +3,6 @@ use Rattle.book_model.specs.Outcome.{rate_case}
 use Rattle.file.proofs.CallAnswers.{told, call-accepted, call-refused}
 use Rattle.file.proofs.calls.rate_line.Goals as goal
 
--- TODO no goal for Need-enum-told
--- enum_told c = search rules
-
--- TODO no goal for Need-enum-known-answer
--- enum-known-answer c = search rules
-
 pub returns-in-Revised : goal.returns-in-Revised
 returns-in-Revised c =
     call-accepted _ c.requires _ _ _ _ (told rate_case _ _ _ _ c.in-Revised.is c.rate-rated.ensures)

@@ -3,12 +3,6 @@ use Rattle.book_model.specs.Outcome.{settle_case}
 use Rattle.file.proofs.CallAnswers.{told, call-accepted, call-refused}
 use Rattle.file.proofs.calls.settle_line.Goals as goal
 
--- TODO no goal for Need-enum-told
--- enum_told c = search rules
-
--- TODO no goal for Need-enum-known-answer
--- enum-known-answer c = search rules
-
 pub returns-in-Taken : goal.returns-in-Taken
 returns-in-Taken c =
     call-accepted _ c.requires _ _ _ _ (told settle_case _ _ _ _ c.in-Taken.is c.settle-settled.ensures)

@@ -3,12 +3,6 @@ use Rattle.book_model.specs.Outcome.{transfer_case}
 use Rattle.file.proofs.CallAnswers.{told, call-accepted, call-refused}
 use Rattle.file.proofs.calls.transfer_line.Goals as goal
 
--- TODO no goal for Need-enum-told
--- enum_told c = search rules
-
--- TODO no goal for Need-enum-known-answer
--- enum-known-answer c = search rules
-
 pub returns-in-Remaining : goal.returns-in-Remaining
 returns-in-Remaining c =
     call-accepted _ c.requires _ _ _ _ (told transfer_case _ _ _ _ c.in-Remaining.is c.transfer-transferred.ensures)

@@ -32,12 +32,6 @@ pub bounds-file-at : goal.bounds-file-at
 bounds-file-at c =
     omega arith
 
--- TODO no goal for Need-enum-known-line
--- enum-known-line c = search rules
-
--- TODO no goal for Need-enum-told
--- enum_told c = search rules
-
 pub overflow_add-result : goal.overflow_add-result
 overflow_add-result c =
     omega arith

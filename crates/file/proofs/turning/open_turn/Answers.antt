@@ -6,12 +6,6 @@ use Rattle.book_model.proofs.Callers.{open_reached}
 use Rattle.file.proofs.Openings.{gather-stops, opens-accepted, opens-refused}
 use Rattle.file.proofs.turning.open_turn.Goals as goal
 
--- TODO no goal for Need-enum-known-next
--- enum-known-next c = search rules
-
--- TODO no goal for Need-enum-told
--- enum_told c = search rules
-
 pub slice_bounds-open_book-end : goal.slice_bounds-open_book-end
 slice_bounds-open_book-end c =
     let e = c.gather-g.ensures in sym (length-take-le _ _ (omega (arith, e.few, e.holders-full)))
@@ -19,12 +13,6 @@ slice_bounds-open_book-end c =
 pub slice_bounds-open_book-end-in-On : goal.slice_bounds-open_book-end-in-On
 slice_bounds-open_book-end-in-On c =
     let e = c.gather-g.ensures in sym (length-take-le _ _ (omega (arith, e.few, e.shares-full)))
-
--- TODO no goal for Need-enum-told-2
--- enum-told-2 c = search rules
-
--- TODO no goal for Need-enum-known-answer
--- enum-known-answer c = search rules
 
 pub returns-in-Stop : goal.returns-in-Stop
 returns-in-Stop c =

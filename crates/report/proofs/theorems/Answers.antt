@@ -3,8 +3,7 @@ use Rattle.report.specs.Statements.{Statements}
 use Rattle.report.proofs.Examples.{paper_printed, empty_file_printed, end_alone_printed}
 use Rattle.report.proofs.FiguresFit.{totals-fit, positions-fit}
 use Rattle.report.proofs.StatementLengths.{totals-length, position-length, refusal_length, book-length, statement-fits, empty_prints_nothing}
-use Rattle.report.proofs.theorems.Statement.{statement}
-use Rattle.report.proofs.theorems.Tie as tie
+use Rattle.report.proofs.theorems.Goals as goal
 
 statements : Statements
 statements =
@@ -22,8 +21,6 @@ statements =
       end_alone_printed = end_alone_printed;
     }
 
-returns : tie.Need-returns
-returns c = statements
-
-pub theorems_spec : {M : Type 1} → statement M
-theorems_spec = tie.close (tie.spec returns)
+pub returns : goal.returns
+returns c =
+    statements
