@@ -1,8 +1,10 @@
 // Writes the statement of each file of the input into a buffer, and prints its number, its bytes and the buffer's digest.
+#![tactic(auto)]
+
 ghost use Rattle.std.specs.Prelude.{◌≤◌, ◌≡◌, length};
 
-use libc::{STDIN_FILENO, STDOUT_FILENO};
 use report::Reported;
+use std::io;
 
 // The most bytes of the input.
 const INPUT: usize = 262144;
@@ -10,19 +12,19 @@ const INPUT: usize = 262144;
 // The most bytes of a buffer.
 const BUFFER: usize = 4000;
 
-fn put_report(file: &[u8], buffer: &mut [u8]) {
+fn put_report(rt: &impl Print, file: &[u8], buffer: &mut [u8]) -> io::Result<()> {
     let answer = report::report(file, buffer);
     match answer {
         Reported::Printed(count) => {
-            cases::put(0, b' ');
-            cases::put(count as u64, b' ');
-            cases::put(cases::digest(buffer), b'\n');
-            io::write_all(STDOUT_FILENO, &buffer[..count]);
+            cases::put(rt, 0, b' ')?;
+            cases::put(rt, count as u64, b' ')?;
+            cases::put(rt, cases::digest(buffer), b'\n')?;
+            rt.write_all(&buffer[..count])
         }
         Reported::Short => {
-            cases::put(answer.number() as u64, b' ');
-            cases::put(0, b' ');
-            cases::put(cases::digest(buffer), b'\n');
+            cases::put(rt, answer.number() as u64, b' ')?;
+            cases::put(rt, 0, b' ')?;
+            cases::put(rt, cases::digest(buffer), b'\n')
         }
     }
 }
@@ -37,7 +39,7 @@ fn size_of(value: u64) -> usize
 }
 
 // One case: the buffer's size, and the file. It answers the position behind the case.
-fn run_case(text: &[u8], at: usize, buffer: &mut [u8]) -> usize
+fn run_case(rt: &impl Print, text: &[u8], at: usize, buffer: &mut [u8]) -> io::Result<usize>
     requires { length buffer.old ≡ 4000 }
 {
     let size = cases::number_at(text, at);
@@ -46,26 +48,27 @@ fn run_case(text: &[u8], at: usize, buffer: &mut [u8]) -> usize
     let end = bytes.end;
     let limit = size_of(size.value);
     cases::fill(buffer);
-    put_report(&text[start..end], &mut buffer[..limit]);
-    end
+    put_report(rt, &text[start..end], &mut buffer[..limit])?;
+    Ok(end)
 }
 
 // The cases of the input: their count comes first.
-fn run(text: &[u8], buffer: &mut [u8])
+fn run(rt: &impl Print, text: &[u8], buffer: &mut [u8]) -> io::Result<()>
     requires { length buffer.old ≡ 4000 }
 {
     let count = cases::number_at(text, 0);
     let mut at = count.next;
     let mut left = count.value;
     while 0 < left {
-        at = run_case(text, at, buffer);
+        at = run_case(rt, text, at, buffer)?;
         left -= 1;
     }
+    Ok(())
 }
 
-fn main() {
+fn main(rt: HostRuntime) -> io::Result<()> {
     let mut input = [0u8; INPUT];
-    let n = io::read_full(STDIN_FILENO, &mut input);
+    let n = cases::read_full(&mut rt.stdin(), &mut input)?;
     let mut buffer = [0u8; BUFFER];
-    run(&input[..n], &mut buffer);
+    run(&rt, &input[..n], &mut buffer)
 }
