@@ -6,7 +6,7 @@ ghost use Rattle.apportionment.specs.Steps.{above, equals, Between, Threshold, r
 use crate::POSITIONS;
 
 // The least and the greatest of some remainders.
-#[derive(Drop)]
+#[derive(Clone, Copy)]
 pub struct Range {
     pub least: u32,
     pub greatest: u32,

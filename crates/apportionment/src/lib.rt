@@ -22,7 +22,7 @@ pub const AMOUNT: u64 = 100000000000;
 pub const WEIGHT: u64 = 92000000;
 
 // Whether an amount is divided, or what is wrong: the count of positions, the amount or the total of the weights.
-#[derive(Drop)]
+#[derive(Clone, Copy)]
 pub enum Division {
     Divided,
     Count,
@@ -31,7 +31,7 @@ pub enum Division {
 }
 
 // What each position receives, and 0 behind the positions in use. A refused division gives nothing to any.
-#[derive(Drop)]
+#[derive(Clone, Copy)]
 pub struct Apportioned {
     pub division: Division,
     pub parts: [u64; POSITIONS],

@@ -12,7 +12,7 @@ ghost use Rattle.calendar.specs.Examples.{Examples};
 use crate::civil::{date_of, day_of_range, days_in};
 
 // A date's day, counted from 20000101.
-#[derive(Drop)]
+#[derive(Clone, Copy)]
 pub enum DayCount {
     Day(u32),
     NoDate,
@@ -31,7 +31,7 @@ impl DayCount {
 }
 
 // A date and a count of days added up.
-#[derive(Drop)]
+#[derive(Clone, Copy)]
 pub enum DateSum {
     Date(u32),
     Refused,
@@ -50,7 +50,7 @@ impl DateSum {
 }
 
 // The days from one date to another, negative where the other is earlier.
-#[derive(Drop)]
+#[derive(Clone, Copy)]
 pub enum DaysBetween {
     Days(i64),
     NotDates,

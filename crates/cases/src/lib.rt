@@ -14,14 +14,14 @@ pub use crate::printing::{put, put_signed};
 pub use crate::reading::{bytes_at, number_at};
 
 // A number, and the position behind its last digit.
-#[derive(Drop)]
+#[derive(Clone, Copy)]
 pub struct Number {
     pub value: u64,
     pub next: usize,
 }
 
 // Where the bytes of a case begin, and the position behind them.
-#[derive(Drop)]
+#[derive(Clone, Copy)]
 pub struct Bytes {
     pub start: usize,
     pub end: usize,

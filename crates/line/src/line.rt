@@ -7,7 +7,7 @@ use crate::field::{Field, read_field};
 use crate::{Fields, LINE_BYTES, ReadAnswer};
 
 // Whether a letter is known, and the fields that it uses.
-#[derive(Drop)]
+#[derive(Clone, Copy)]
 pub struct Uses {
     pub known: bool,
     pub date: bool,

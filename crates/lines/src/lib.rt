@@ -11,28 +11,28 @@ pub use crate::reading::{next_line, read_from, reader_at};
 use line::ReadAnswer;
 
 // Where a part of a file begins, and the position behind it.
-#[derive(Drop)]
+#[derive(Clone, Copy)]
 pub struct Bounds {
     pub start: usize,
     pub end: usize,
 }
 
 // A file and a position in it.
-#[derive(Drop)]
+#[derive(Clone, Copy)]
 pub struct Reader<'a> {
     pub file: &'a [u8],
     pub at: usize,
 }
 
 // A line, and the reader behind it.
-#[derive(Drop)]
+#[derive(Clone, Copy)]
 pub struct Moved<'a> {
     pub reader: Reader<'a>,
     pub line: ReadAnswer,
 }
 
 // A line, and the position behind it.
-#[derive(Drop)]
+#[derive(Clone, Copy)]
 pub struct Step {
     pub line: ReadAnswer,
     pub at: usize,

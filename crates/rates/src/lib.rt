@@ -20,7 +20,7 @@ pub const GREATEST_DAILY: u64 = 1074598;
 pub const OVER: u32 = 6;
 
 // A daily rate, in units of 1/10^10.
-#[derive(Drop)]
+#[derive(Clone, Copy)]
 pub enum DailyRate {
     Daily(u64),
     Refused,
