@@ -12,6 +12,8 @@ use crate::printing::{
 use book::{Book, Cents, Day, Parts};
 use std::io;
 
+// Each call has a function that prints its answer, and answers the book after it, or the error of a failed write.
+
 // Two holders finance a right of 2,500,000.00 euros at 2 percent.
 fn open_right(rt: &impl Print, book: Book) -> io::Result<Book>
     requires { Reached book }
@@ -93,7 +95,7 @@ fn month(rt: &impl Print, book: Book) -> io::Result<Book>
     rate(rt, unchanged, 20240116, 1850)
 }
 
-// A failed write ends the month with the error.
+// A failed write ends the program with the error.
 fn main(rt: HostRuntime) -> io::Result<()> {
     let book = month(&rt, Book::empty())?;
     put_totals(&rt, book)?;
