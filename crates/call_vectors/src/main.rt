@@ -1,18 +1,23 @@
 // Runs the calls of the input on a book, and prints the answer to each: its number, and its values.
-ghost use Rattle.std.specs.Prelude.{◌≤◌, ◌≡◌, length};
+#![tactic(auto)]
+
+ghost use Rattle.std.specs.Prelude.{◌≤◌, ◌≡◌, length, IfOk};
 ghost use Rattle.book_model.specs.Reached.{Reached};
 
 use book::{
     AdvanceAnswer, Book, Cents, Day, OpenAnswer, Parts, PlaceAnswer, PositionAnswer, RateAnswer,
     SettleAnswer, TransferAnswer,
 };
-use libc::STDIN_FILENO;
+use std::io;
+
+// The most bytes of the input.
+const INPUT: usize = 65536;
 
 // The most numbers that a list of the input has.
 const LISTED: usize = 70;
 
 // The numbers of a list, and the position behind it.
-#[derive(Drop)]
+#[derive(Clone, Copy)]
 struct Listed {
     numbers: [u32; LISTED],
     count: usize,
@@ -20,7 +25,7 @@ struct Listed {
 }
 
 // The book after a call, and the position behind the call.
-#[derive(Drop)]
+#[derive(Clone, Copy)]
 struct Step {
     book: Book,
     next: usize,
@@ -58,16 +63,16 @@ fn read_list(text: &[u8], at: usize) -> Listed
     }
 }
 
-fn put_opened(answer: OpenAnswer) {
+fn put_opened(rt: &impl Print, answer: OpenAnswer) -> io::Result<()> {
     match answer {
-        OpenAnswer::Accepted => cases::put(0, b'\n'),
-        OpenAnswer::Refused(refusal) => book_cases::put_refused(refusal, 0),
+        OpenAnswer::Accepted => cases::put(rt, 0, b'\n'),
+        OpenAnswer::Refused(refusal) => book_cases::put_refused(rt, refusal, 0),
     }
 }
 
-fn open_book(book: Book, text: &[u8], at: usize) -> Step
+fn open_book(rt: &impl Print, book: Book, text: &[u8], at: usize) -> io::Result<Step>
     requires { Reached book }
-    ensures { Reached result.book }
+    ensures { IfOk result (λ step. Reached step.book) }
 {
     let first = cases::number_at(text, at);
     let term = cases::number_at(text, first.next);
@@ -77,6 +82,7 @@ fn open_book(book: Book, text: &[u8], at: usize) -> Step
     let shares = read_list(text, holders.next);
     let next = shares.next;
     let opened = open_listed(
+        rt,
         book,
         narrow(first.value),
         Day(narrow(term.value)),
@@ -84,14 +90,15 @@ fn open_book(book: Book, text: &[u8], at: usize) -> Step
         Cents(cents.value),
         holders,
         shares,
-    );
-    Step {
+    )?;
+    Ok(Step {
         book: opened,
         next: next,
-    }
+    })
 }
 
 fn open_listed(
+    rt: &impl Print,
     book: Book,
     first: u32,
     term: Day,
@@ -99,11 +106,11 @@ fn open_listed(
     cents: Cents,
     holders: Listed,
     shares: Listed,
-) -> Book
+) -> io::Result<Book>
     requires reached { Reached book }
-    requires count_bound { (holders.count ≤ 70) × (length holders.numbers ≡ 70) }
-    requires count_bound_2 { (shares.count ≤ 70) × (length shares.numbers ≡ 70) }
-    ensures { Reached result }
+    requires holders_bound { (holders.count ≤ 70) × (length holders.numbers ≡ 70) }
+    requires shares_bound { (shares.count ≤ 70) × (length shares.numbers ≡ 70) }
+    ensures { IfOk result (λ after. Reached after) }
 {
     let hs = holders.numbers;
     let ss = shares.numbers;
@@ -111,48 +118,48 @@ fn open_listed(
     let s = shares.count;
     let opened = book::open_book(book, first, term, annual, cents, &hs[..h], &ss[..s]);
     let answer = opened.answer;
-    put_opened(answer);
-    opened.book
+    put_opened(rt, answer)?;
+    Ok(opened.book)
 }
 
-fn put_advanced(answer: AdvanceAnswer) {
+fn put_advanced(rt: &impl Print, answer: AdvanceAnswer) -> io::Result<()> {
     match answer {
         AdvanceAnswer::Passed(days) => {
-            cases::put(0, b' ');
-            cases::put(days.0 as u64, b'\n');
+            cases::put(rt, 0, b' ')?;
+            cases::put(rt, days.0 as u64, b'\n')
         }
-        AdvanceAnswer::Refused(refusal) => book_cases::put_refused(refusal, 1),
+        AdvanceAnswer::Refused(refusal) => book_cases::put_refused(rt, refusal, 1),
     }
 }
 
-fn advance(book: Book, text: &[u8], at: usize) -> Step
+fn advance(rt: &impl Print, book: Book, text: &[u8], at: usize) -> io::Result<Step>
     requires { Reached book }
-    ensures { Reached result.book }
+    ensures { IfOk result (λ step. Reached step.book) }
 {
     let date = cases::number_at(text, at);
     let advanced = book::advance(book, narrow(date.value));
     let answer = advanced.answer;
-    put_advanced(answer);
+    put_advanced(rt, answer)?;
     let after = advanced.book;
-    Step {
+    Ok(Step {
         book: after,
         next: date.next,
-    }
+    })
 }
 
-fn put_transferred(answer: TransferAnswer) {
+fn put_transferred(rt: &impl Print, answer: TransferAnswer) -> io::Result<()> {
     match answer {
         TransferAnswer::Remaining(parts) => {
-            cases::put(0, b' ');
-            cases::put(parts.0, b'\n');
+            cases::put(rt, 0, b' ')?;
+            cases::put(rt, parts.0, b'\n')
         }
-        TransferAnswer::Refused(refusal) => book_cases::put_refused(refusal, 1),
+        TransferAnswer::Refused(refusal) => book_cases::put_refused(rt, refusal, 1),
     }
 }
 
-fn transfer(book: Book, text: &[u8], at: usize) -> Step
+fn transfer(rt: &impl Print, book: Book, text: &[u8], at: usize) -> io::Result<Step>
     requires { Reached book }
-    ensures { Reached result.book }
+    ensures { IfOk result (λ step. Reached step.book) }
 {
     let cedent = cases::number_at(text, at);
     let assignee = cases::number_at(text, cedent.next);
@@ -164,161 +171,162 @@ fn transfer(book: Book, text: &[u8], at: usize) -> Step
         Parts(parts.value),
     );
     let answer = transferred.answer;
-    put_transferred(answer);
+    put_transferred(rt, answer)?;
     let after = transferred.book;
-    Step {
+    Ok(Step {
         book: after,
         next: parts.next,
-    }
+    })
 }
 
-fn put_settled(answer: SettleAnswer) {
+fn put_settled(rt: &impl Print, answer: SettleAnswer) -> io::Result<()> {
     match answer {
         SettleAnswer::Taken {
             interest,
             principal,
         } => {
-            cases::put(0, b' ');
-            cases::put(interest.0, b' ');
-            cases::put(principal.0, b'\n');
+            cases::put(rt, 0, b' ')?;
+            cases::put(rt, interest.0, b' ')?;
+            cases::put(rt, principal.0, b'\n')
         }
-        SettleAnswer::Refused(refusal) => book_cases::put_refused(refusal, 2),
+        SettleAnswer::Refused(refusal) => book_cases::put_refused(rt, refusal, 2),
     }
 }
 
-fn settle(book: Book, text: &[u8], at: usize) -> Step
+fn settle(rt: &impl Print, book: Book, text: &[u8], at: usize) -> io::Result<Step>
     requires { Reached book }
-    ensures { Reached result.book }
+    ensures { IfOk result (λ step. Reached step.book) }
 {
     let cents = cases::number_at(text, at);
     let settled = book::settle(book, Cents(cents.value));
     let answer = settled.answer;
-    put_settled(answer);
+    put_settled(rt, answer)?;
     let after = settled.book;
-    Step {
+    Ok(Step {
         book: after,
         next: cents.next,
-    }
+    })
 }
 
-fn put_rated(answer: RateAnswer) {
+fn put_rated(rt: &impl Print, answer: RateAnswer) -> io::Result<()> {
     match answer {
         RateAnswer::Revised { outstanding, due } => {
-            cases::put(0, b' ');
-            cases::put_signed(outstanding.0, b' ');
-            cases::put_signed(due.0, b'\n');
+            cases::put(rt, 0, b' ')?;
+            cases::put_signed(rt, outstanding.0, b' ')?;
+            cases::put_signed(rt, due.0, b'\n')
         }
-        RateAnswer::Refused(refusal) => book_cases::put_refused(refusal, 2),
+        RateAnswer::Refused(refusal) => book_cases::put_refused(rt, refusal, 2),
     }
 }
 
-fn rate(book: Book, text: &[u8], at: usize) -> Step
+fn rate(rt: &impl Print, book: Book, text: &[u8], at: usize) -> io::Result<Step>
     requires { Reached book }
-    ensures { Reached result.book }
+    ensures { IfOk result (λ step. Reached step.book) }
 {
     let date = cases::number_at(text, at);
     let annual = cases::number_at(text, date.next);
     let rated = book::rate(book, narrow(date.value), annual.value);
     let answer = rated.answer;
-    put_rated(answer);
+    put_rated(rt, answer)?;
     let after = rated.book;
-    Step {
+    Ok(Step {
         book: after,
         next: annual.next,
-    }
+    })
 }
 
 // Reads the position of a holder. It answers the position behind the call.
-fn read_holder(book: Book, text: &[u8], at: usize) -> usize
+fn read_holder(rt: &impl Print, book: Book, text: &[u8], at: usize) -> io::Result<usize>
     requires { Reached book }
 {
     let holder = cases::number_at(text, at);
     match book::position_of(book, narrow(holder.value)) {
         PositionAnswer::Held(position) => {
-            cases::put(0, b' ');
-            book_cases::put_position(position);
+            cases::put(rt, 0, b' ')?;
+            book_cases::put_position(rt, position)?;
         }
-        PositionAnswer::Refused(refusal) => book_cases::put_refused(refusal, 4),
+        PositionAnswer::Refused(refusal) => book_cases::put_refused(rt, refusal, 4)?,
     }
-    holder.next
+    Ok(holder.next)
 }
 
 // Reads the position at a place.
-fn read_place(book: Book, text: &[u8], at: usize) -> usize
+fn read_place(rt: &impl Print, book: Book, text: &[u8], at: usize) -> io::Result<usize>
     requires { Reached book }
 {
     let place = cases::number_at(text, at);
     match book::position_at(book, place.value as usize) {
         PlaceAnswer::Placed { count, position } => {
-            cases::put(0, b' ');
-            cases::put(count as u64, b' ');
-            book_cases::put_position(position);
+            cases::put(rt, 0, b' ')?;
+            cases::put(rt, count as u64, b' ')?;
+            book_cases::put_position(rt, position)?;
         }
-        PlaceAnswer::Refused(refusal) => book_cases::put_refused(refusal, 5),
+        PlaceAnswer::Refused(refusal) => book_cases::put_refused(rt, refusal, 5)?,
     }
-    place.next
+    Ok(place.next)
 }
 
 // The reader of a number: 5 by holder, 6 by place, else the totals.
-fn read_by(book: Book, text: &[u8], kind: u64, at: usize) -> usize
+fn read_by(rt: &impl Print, book: Book, text: &[u8], kind: u64, at: usize) -> io::Result<usize>
     requires { Reached book }
 {
     match kind {
-        5 => read_holder(book, text, at),
-        6 => read_place(book, text, at),
+        5 => read_holder(rt, book, text, at),
+        6 => read_place(rt, book, text, at),
         _ => {
-            book_cases::put_totals(book);
-            at
+            book_cases::put_totals(rt, book)?;
+            Ok(at)
         }
     }
 }
 
 // One call: 0 is a new book, 1 Open, 2 Advance, 3 Transfer, 4 Settle, 8 Rate, and any other a reader.
-fn call(book: Book, text: &[u8], at: usize) -> Step
+fn call(rt: &impl Print, book: Book, text: &[u8], at: usize) -> io::Result<Step>
     requires { Reached book }
-    ensures { Reached result.book }
+    ensures { IfOk result (λ step. Reached step.book) }
 {
     let kind = cases::number_at(text, at);
     let number = kind.value;
     match number {
         0 => {
-            cases::put(0, b'\n');
-            Step {
+            cases::put(rt, 0, b'\n')?;
+            Ok(Step {
                 book: Book::empty(),
                 next: kind.next,
-            }
+            })
         }
-        1 => open_book(book, text, kind.next),
-        2 => advance(book, text, kind.next),
-        3 => transfer(book, text, kind.next),
-        4 => settle(book, text, kind.next),
-        8 => rate(book, text, kind.next),
+        1 => open_book(rt, book, text, kind.next),
+        2 => advance(rt, book, text, kind.next),
+        3 => transfer(rt, book, text, kind.next),
+        4 => settle(rt, book, text, kind.next),
+        8 => rate(rt, book, text, kind.next),
         _ => {
-            let next = read_by(book, text, number, kind.next);
-            Step {
+            let next = read_by(rt, book, text, number, kind.next)?;
+            Ok(Step {
                 book: book,
                 next: next,
-            }
+            })
         }
     }
 }
 
 // The calls of the input: their count comes first.
-fn run(text: &[u8]) {
+fn run(rt: &impl Print, text: &[u8]) -> io::Result<()> {
     let count = cases::number_at(text, 0);
     let mut book = Book::empty();
     let mut at = count.next;
     let mut left = count.value;
     while 0 < left {
-        let step = call(book, text, at);
+        let step = call(rt, book, text, at)?;
         book = step.book;
         at = step.next;
         left -= 1;
     }
+    Ok(())
 }
 
-fn main() {
-    let mut buffer = io::large_buffer();
-    let n = io::read_full(STDIN_FILENO, &mut buffer);
-    run(&buffer[..n]);
+fn main(rt: HostRuntime) -> io::Result<()> {
+    let mut buffer = [0u8; INPUT];
+    let n = cases::read_full(&mut rt.stdin(), &mut buffer)?;
+    run(&rt, &buffer[..n])
 }

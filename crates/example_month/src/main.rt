@@ -1,17 +1,23 @@
 // A month of one right, by calls: a program begins with the empty book, and each call takes the book that the last one gave back.
+#![tactic(auto)]
+
 mod printing;
 
+ghost use Rattle.std.specs.Prelude.{IfOk};
 ghost use Rattle.book_model.specs.Reached.{Reached};
 
 use crate::printing::{
     put_advanced, put_opened, put_positions, put_rated, put_settled, put_totals, put_transferred,
 };
 use book::{Book, Cents, Day, Parts};
+use std::io;
+
+// Each call has a function that prints its answer, and answers the book after it, or the error of a failed write.
 
 // Two holders finance a right of 2,500,000.00 euros at 2 percent.
-fn open_right(book: Book) -> Book
+fn open_right(rt: &impl Print, book: Book) -> io::Result<Book>
     requires { Reached book }
-    ensures { Reached result }
+    ensures { IfOk result (λ after. Reached after) }
 {
     let holders = [101u32, 202];
     let shares = [600000u32, 400000];
@@ -25,66 +31,73 @@ fn open_right(book: Book) -> Book
         &shares,
     );
     let answer = opened.answer;
-    put_opened(answer);
-    opened.book
+    put_opened(rt, answer)?;
+    Ok(opened.book)
 }
 
-fn advance(book: Book, date: u32) -> Book
+fn advance(rt: &impl Print, book: Book, date: u32) -> io::Result<Book>
     requires { Reached book }
-    ensures { Reached result }
+    ensures { IfOk result (λ after. Reached after) }
 {
     let advanced = book::advance(book, date);
     let answer = advanced.answer;
-    put_advanced(answer);
-    advanced.book
+    put_advanced(rt, answer)?;
+    Ok(advanced.book)
 }
 
-fn transfer(book: Book, cedent: u32, assignee: u32, parts: Parts) -> Book
+fn transfer(
+    rt: &impl Print,
+    book: Book,
+    cedent: u32,
+    assignee: u32,
+    parts: Parts,
+) -> io::Result<Book>
     requires { Reached book }
-    ensures { Reached result }
+    ensures { IfOk result (λ after. Reached after) }
 {
     let transferred = book::transfer(book, cedent, assignee, parts);
     let answer = transferred.answer;
-    put_transferred(answer);
-    transferred.book
+    put_transferred(rt, answer)?;
+    Ok(transferred.book)
 }
 
-fn settle(book: Book, cents: Cents) -> Book
+fn settle(rt: &impl Print, book: Book, cents: Cents) -> io::Result<Book>
     requires { Reached book }
-    ensures { Reached result }
+    ensures { IfOk result (λ after. Reached after) }
 {
     let settled = book::settle(book, cents);
     let answer = settled.answer;
-    put_settled(answer);
-    settled.book
+    put_settled(rt, answer)?;
+    Ok(settled.book)
 }
 
-fn rate(book: Book, date: u32, annual: u64) -> Book
+fn rate(rt: &impl Print, book: Book, date: u32, annual: u64) -> io::Result<Book>
     requires { Reached book }
-    ensures { Reached result }
+    ensures { IfOk result (λ after. Reached after) }
 {
     let rated = book::rate(book, date, annual);
     let answer = rated.answer;
-    put_rated(answer);
-    rated.book
+    put_rated(rt, answer)?;
+    Ok(rated.book)
 }
 
 // The month's calls. The second settlement of 31 January is refused, and the month goes on with the book that came back.
-fn month(book: Book) -> Book
+fn month(rt: &impl Print, book: Book) -> io::Result<Book>
     requires { Reached book }
-    ensures { Reached result }
+    ensures { IfOk result (λ after. Reached after) }
 {
-    let opened = open_right(book);
-    let communicated = advance(opened, 20240115);
-    let assigned = transfer(communicated, 101, 303, Parts(250000));
-    let ended = advance(assigned, 20240131);
-    let settled = settle(ended, Cents(5000000));
-    let unchanged = settle(settled, Cents(5000000));
-    rate(unchanged, 20240116, 1850)
+    let opened = open_right(rt, book)?;
+    let communicated = advance(rt, opened, 20240115)?;
+    let assigned = transfer(rt, communicated, 101, 303, Parts(250000))?;
+    let ended = advance(rt, assigned, 20240131)?;
+    let settled = settle(rt, ended, Cents(5000000))?;
+    let unchanged = settle(rt, settled, Cents(5000000))?;
+    rate(rt, unchanged, 20240116, 1850)
 }
 
-fn main() {
-    let book = month(Book::empty());
-    put_totals(book);
-    put_positions(book);
+// A failed write ends the program with the error.
+fn main(rt: HostRuntime) -> io::Result<()> {
+    let book = month(&rt, Book::empty())?;
+    put_totals(&rt, book)?;
+    put_positions(&rt, book)
 }

@@ -1,11 +1,13 @@
 // Loads the files of the input on a book, writes and reads its lines, and prints the answer to each case.
-ghost use Rattle.std.specs.Prelude.{◌≤◌};
+#![tactic(auto)]
+
+ghost use Rattle.std.specs.Prelude.{◌≤◌, IfOk};
 ghost use Rattle.book_model.specs.Reached.{Reached};
 
 use book::{Book, PlaceAnswer};
 use file::LoadAnswer;
-use libc::STDIN_FILENO;
 use line::{Fields, ReadAnswer};
+use std::io;
 
 // The most bytes of the input.
 const INPUT: usize = 524288;
@@ -14,7 +16,7 @@ const INPUT: usize = 524288;
 const BUFFER: usize = 100;
 
 // The book after a case, and the position behind the case.
-#[derive(Drop)]
+#[derive(Clone, Copy)]
 struct Step {
     book: Book,
     next: usize,
@@ -25,7 +27,7 @@ fn narrow(value: u64) -> u32 {
 }
 
 // All positions in book order, their number first.
-fn put_positions(book: Book)
+fn put_positions(rt: &impl Print, book: Book) -> io::Result<()>
     requires { Reached book }
 {
     let mut i: usize = 0;
@@ -33,63 +35,64 @@ fn put_positions(book: Book)
         match book::position_at(book, i) {
             PlaceAnswer::Placed { count, position } => {
                 if i == 0 {
-                    cases::put(count as u64, b'\n');
+                    cases::put(rt, count as u64, b'\n')?;
                 }
-                book_cases::put_position(position);
+                book_cases::put_position(rt, position)?;
             }
             PlaceAnswer::Refused(_) => {
                 if i == 0 {
-                    cases::put(0, b'\n');
+                    cases::put(rt, 0, b'\n')?;
                 }
-                return;
+                return Ok(());
             }
         }
         i += 1;
     }
+    Ok(())
 }
 
 // Number, line and count of a load.
-fn put_answer(answer: LoadAnswer) {
+fn put_answer(rt: &impl Print, answer: LoadAnswer) -> io::Result<()> {
     match answer {
         LoadAnswer::Accepted(count) => {
-            cases::put(0, b' ');
-            cases::put(0, b' ');
-            cases::put(count as u64, b' ');
+            cases::put(rt, 0, b' ')?;
+            cases::put(rt, 0, b' ')?;
+            cases::put(rt, count as u64, b' ')
         }
         LoadAnswer::Refused { refusal, line } => {
-            cases::put(refusal.number() as u64, b' ');
-            cases::put(line as u64, b' ');
-            cases::put(0, b' ');
+            cases::put(rt, refusal.number() as u64, b' ')?;
+            cases::put(rt, line as u64, b' ')?;
+            cases::put(rt, 0, b' ')
         }
     }
 }
 
-fn put_part(file: &[u8], answer: LoadAnswer) {
+fn put_part(rt: &impl Print, file: &[u8], answer: LoadAnswer) -> io::Result<()> {
     let bounds = file::part_bounds(file, answer);
-    cases::put(bounds.start as u64, b' ');
-    cases::put(bounds.end as u64, b' ');
-    cases::put(cases::digest(file::refused_part(file, answer)), b'\n');
+    cases::put(rt, bounds.start as u64, b' ')?;
+    cases::put(rt, bounds.end as u64, b' ')?;
+    cases::put(rt, cases::digest(file::refused_part(file, answer)), b'\n')
 }
 
-fn load(book: Book, file: &[u8]) -> Book
+fn load(rt: &impl Print, book: Book, file: &[u8]) -> io::Result<Book>
     requires { Reached book }
-    ensures { Reached result }
+    ensures { IfOk result (λ after. Reached after) }
 {
     let loaded = file::load(file, book);
     let answer = loaded.answer;
     let after = loaded.book;
-    put_answer(answer);
-    put_part(file, answer);
-    book_cases::put_totals(after);
-    put_positions(after);
-    after
+    put_answer(rt, answer)?;
+    put_part(rt, file, answer)?;
+    book_cases::put_totals(rt, after)?;
+    put_positions(rt, after)?;
+    Ok(after)
 }
 
 // Writes a line into a buffer, and prints its number and the buffer's digest.
-fn write(buffer: &mut [u8], f: Fields) {
+fn write(rt: &impl Print, buffer: &mut [u8], f: Fields) -> io::Result<()> {
     let answer = line::write_line(buffer, f);
-    cases::put(answer.number() as u64, b' ');
-    cases::put(cases::digest(buffer), b'\n');
+    cases::put(rt, answer.number() as u64, b' ')?;
+    cases::put(rt, cases::digest(buffer), b'\n')
 }
 
 fn size_of(value: u64) -> usize
@@ -102,7 +105,7 @@ fn size_of(value: u64) -> usize
 }
 
 // It answers the position behind the case.
-fn write_case(text: &[u8], at: usize) -> usize {
+fn write_case(rt: &impl Print, text: &[u8], at: usize) -> io::Result<usize> {
     let letter = cases::number_at(text, at);
     let date = cases::number_at(text, letter.next);
     let first = cases::number_at(text, date.next);
@@ -119,24 +122,25 @@ fn write_case(text: &[u8], at: usize) -> usize {
     let mut buffer = [0u8; BUFFER];
     cases::fill(&mut buffer);
     let end = size_of(size.value);
-    write(&mut buffer[..end], f);
-    size.next
+    write(rt, &mut buffer[..end], f)?;
+    Ok(size.next)
 }
 
-fn put_fields(number: u64, f: Fields) {
-    cases::put(number, b' ');
-    cases::put(f.letter as u64, b' ');
-    cases::put(f.date as u64, b' ');
-    cases::put(f.first as u64, b' ');
-    cases::put(f.second as u64, b' ');
-    cases::put(f.third, b'\n');
+fn put_fields(rt: &impl Print, number: u64, f: Fields) -> io::Result<()> {
+    cases::put(rt, number, b' ')?;
+    cases::put(rt, f.letter as u64, b' ')?;
+    cases::put(rt, f.date as u64, b' ')?;
+    cases::put(rt, f.first as u64, b' ')?;
+    cases::put(rt, f.second as u64, b' ')?;
+    cases::put(rt, f.third, b'\n')
 }
 
-fn read(line: &[u8]) {
+fn read(rt: &impl Print, line: &[u8]) -> io::Result<()> {
     let answer = line::read_line(line);
     match answer {
-        ReadAnswer::Read(f) => put_fields(0, f),
+        ReadAnswer::Read(f) => put_fields(rt, 0, f),
         ReadAnswer::Malformed => put_fields(
+            rt,
             answer.number() as u64,
             Fields {
                 letter: 0,
@@ -150,53 +154,54 @@ fn read(line: &[u8]) {
 }
 
 // One case: 0 is a new book, 1 a load, 2 a line written, and any other a line read.
-fn run_case(book: Book, text: &[u8], at: usize) -> Step
+fn run_case(rt: &impl Print, book: Book, text: &[u8], at: usize) -> io::Result<Step>
     requires { Reached book }
-    ensures { Reached result.book }
+    ensures { IfOk result (λ step. Reached step.book) }
 {
     let kind = cases::number_at(text, at);
     let number = kind.value;
     if number == 0 {
-        cases::put(0, b'\n');
-        return Step {
+        cases::put(rt, 0, b'\n')?;
+        return Ok(Step {
             book: Book::empty(),
             next: kind.next,
-        };
+        });
     }
     if number == 2 {
-        let next = write_case(text, kind.next);
-        return Step { book, next };
+        let next = write_case(rt, text, kind.next)?;
+        return Ok(Step { book, next });
     }
     let bytes = cases::bytes_at(text, kind.next);
     let start = bytes.start;
     let end = bytes.end;
     if number == 1 {
-        let after = load(book, &text[start..end]);
-        return Step {
+        let after = load(rt, book, &text[start..end])?;
+        return Ok(Step {
             book: after,
             next: end,
-        };
+        });
     }
-    read(&text[start..end]);
-    Step { book, next: end }
+    read(rt, &text[start..end])?;
+    Ok(Step { book, next: end })
 }
 
 // The cases of the input: their count comes first.
-fn run(text: &[u8]) {
+fn run(rt: &impl Print, text: &[u8]) -> io::Result<()> {
     let count = cases::number_at(text, 0);
     let mut book = Book::empty();
     let mut at = count.next;
     let mut left = count.value;
     while 0 < left {
-        let step = run_case(book, text, at);
+        let step = run_case(rt, book, text, at)?;
         book = step.book;
         at = step.next;
         left -= 1;
     }
+    Ok(())
 }
 
-fn main() {
+fn main(rt: HostRuntime) -> io::Result<()> {
     let mut buffer = [0u8; INPUT];
-    let n = io::read_full(STDIN_FILENO, &mut buffer);
-    run(&buffer[..n]);
+    let n = cases::read_full(&mut rt.stdin(), &mut buffer)?;
+    run(&rt, &buffer[..n])
 }

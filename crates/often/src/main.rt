@@ -1,10 +1,15 @@
 // For the bench: the statement of an order file; or, given a number of cents, 10,000 settlements of one book by them, and what they took.
+#![tactic(auto)]
+
 mod settling;
 
 use crate::settling::taken_often;
 use book::Cents;
-use libc::{STDIN_FILENO, STDOUT_FILENO};
 use report::Reported;
+use std::io;
+
+// The most bytes of the input.
+const INPUT: usize = 65536;
 
 // The most digits of a number of cents.
 const DIGITS: usize = 12;
@@ -21,13 +26,11 @@ fn begins_with_digit(text: &[u8]) -> bool {
 }
 
 // The statement, as the program `statement` prints it.
-fn put_statement(file: &[u8]) {
+fn put_statement(rt: &impl Print, file: &[u8]) -> io::Result<()> {
     let mut out = [0u8; Reported::BYTES];
     match report::report(file, &mut out) {
-        Reported::Printed(count) => {
-            io::write_all(STDOUT_FILENO, &out[..count]);
-        }
-        Reported::Short => {}
+        Reported::Printed(count) => rt.write_all(&out[..count]),
+        Reported::Short => Ok(()),
     }
 }
 
@@ -43,22 +46,22 @@ fn ends_at(text: &[u8], end: usize) -> bool {
 }
 
 // What the settlements took, by the number of cents that a text has in its first line; nothing where something else stands there.
-fn put_settlements(text: &[u8]) {
+fn put_settlements(rt: &impl Print, text: &[u8]) -> io::Result<()> {
     let number = cases::number_at(text, 0);
     let end = number.next;
     if !ends_at(text, end) {
-        return;
+        return Ok(());
     }
     let sum = taken_often(Cents(number.value));
-    cases::put(sum, b'\n');
+    cases::put(rt, sum, b'\n')
 }
 
-fn main() {
-    let mut file = io::large_buffer();
-    let n = io::read_full(STDIN_FILENO, &mut file);
+fn main(rt: HostRuntime) -> io::Result<()> {
+    let mut file = [0u8; INPUT];
+    let n = cases::read_full(&mut rt.stdin(), &mut file)?;
     if begins_with_digit(&file[..n]) {
-        put_settlements(&file[..n]);
+        put_settlements(&rt, &file[..n])
     } else {
-        put_statement(&file[..n]);
+        put_statement(&rt, &file[..n])
     }
 }
