@@ -7,7 +7,7 @@ use std::io;
 // The most bytes of the input.
 const INPUT: usize = 65536;
 
-fn put_division(rt: &impl Print, division: Division) -> io::Result<()> {
+fn put_division(rt: &impl Print, division: Division) {
     match division {
         Division::Divided => cases::put(rt, 0, b' '),
         Division::Count => cases::put(rt, 1, b' '),
@@ -17,10 +17,10 @@ fn put_division(rt: &impl Print, division: Division) -> io::Result<()> {
 }
 
 // The parts, and the end of the line.
-fn put_parts(rt: &impl Print, parts: &[u64; POSITIONS]) -> io::Result<()> {
+fn put_parts(rt: &impl Print, parts: &[u64; POSITIONS]) {
     let mut i: usize = 0;
     while i < POSITIONS - 1 {
-        cases::put(rt, parts[i], b' ')?;
+        cases::put(rt, parts[i], b' ');
         i += 1;
     }
     cases::put(rt, parts[POSITIONS - 1], b'\n')
@@ -43,32 +43,32 @@ fn read_weights(text: &[u8], at: usize, count: u64, weights: &mut [u64; POSITION
 }
 
 // The line of the case at a position. It answers the position behind the case.
-fn put_case(rt: &impl Print, text: &[u8], at: usize) -> io::Result<usize> {
+fn put_case(rt: &impl Print, text: &[u8], at: usize) -> usize {
     let amount = cases::number_at(text, at);
     let count = cases::number_at(text, amount.next);
     let stated = cases::number_at(text, count.next);
     let mut weights = [0u64; POSITIONS];
     let next = read_weights(text, stated.next, stated.value, &mut weights);
     let split = apportionment::apportion(amount.value, weights, count.value as usize);
-    put_division(rt, split.division)?;
-    put_parts(rt, &split.parts)?;
-    Ok(next)
+    put_division(rt, split.division);
+    put_parts(rt, &split.parts);
+    next
 }
 
 // The lines of the cases: their count comes first.
-fn put_cases(rt: &impl Print, text: &[u8]) -> io::Result<()> {
+fn put_cases(rt: &impl Print, text: &[u8]) {
     let count = cases::number_at(text, 0);
     let mut at = count.next;
     let mut left = count.value;
     while 0 < left {
-        at = put_case(rt, text, at)?;
+        at = put_case(rt, text, at);
         left -= 1;
     }
-    Ok(())
 }
 
 fn main(rt: HostRuntime) -> io::Result<()> {
     let mut buffer = [0u8; INPUT];
     let n = cases::read_full(&mut rt.stdin(), &mut buffer)?;
-    put_cases(&rt, &buffer[..n])
+    put_cases(&rt, &buffer[..n]);
+    Ok(())
 }

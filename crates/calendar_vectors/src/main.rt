@@ -53,7 +53,7 @@ fn with_number(tally: Tally, x: u32) -> Tally {
 }
 
 // The line of a year. It answers the digest.
-fn put_year(rt: &impl Print, year: u32, digest: u64) -> io::Result<u64>
+fn put_year(rt: &impl Print, year: u32, digest: u64) -> u64
     requires { year ≤ 2200 }
 {
     let first = year * 10000;
@@ -66,55 +66,54 @@ fn put_year(rt: &impl Print, year: u32, digest: u64) -> io::Result<u64>
         tally = with_number(tally, first + i);
         i += 1;
     }
-    cases::put(rt, year as u64, b' ')?;
-    cases::put(rt, tally.count, b' ')?;
-    cases::put(rt, tally.digest, b'\n')?;
-    Ok(tally.digest)
+    cases::put(rt, year as u64, b' ');
+    cases::put(rt, tally.count, b' ');
+    cases::put(rt, tally.digest, b'\n');
+    tally.digest
 }
 
-fn put_years(rt: &impl Print) -> io::Result<()> {
+fn put_years(rt: &impl Print) {
     let mut digest: u64 = 0;
     let mut year: u32 = 1999;
     while year <= 2200 {
-        digest = put_year(rt, year, digest)?;
+        digest = put_year(rt, year, digest);
         year += 1;
     }
-    Ok(())
 }
 
 // The number of a refusal, and no value.
-fn put_refused(rt: &impl Print, number: u32, end: u8) -> io::Result<()> {
-    cases::put(rt, number as u64, b' ')?;
+fn put_refused(rt: &impl Print, number: u32, end: u8) {
+    cases::put(rt, number as u64, b' ');
     cases::put(rt, 0, end)
 }
 
-fn put_count(rt: &impl Print, date: u32) -> io::Result<()> {
+fn put_count(rt: &impl Print, date: u32) {
     let answer = calendar::day_count(date);
     match answer {
         DayCount::Day(day) => {
-            cases::put(rt, 0, b' ')?;
+            cases::put(rt, 0, b' ');
             cases::put(rt, day as u64, b' ')
         }
         DayCount::NoDate => put_refused(rt, answer.number(), b' '),
     }
 }
 
-fn put_sum(rt: &impl Print, date: u32, days: u32) -> io::Result<()> {
+fn put_sum(rt: &impl Print, date: u32, days: u32) {
     let answer = calendar::plus_days(date, days);
     match answer {
         DateSum::Date(sum) => {
-            cases::put(rt, 0, b' ')?;
+            cases::put(rt, 0, b' ');
             cases::put(rt, sum as u64, b' ')
         }
         DateSum::Refused => put_refused(rt, answer.number(), b' '),
     }
 }
 
-fn put_between(rt: &impl Print, from: u32, to: u32) -> io::Result<()> {
+fn put_between(rt: &impl Print, from: u32, to: u32) {
     let answer = calendar::days_between(from, to);
     match answer {
         DaysBetween::Days(days) => {
-            cases::put(rt, 0, b' ')?;
+            cases::put(rt, 0, b' ');
             cases::put_signed(rt, days, b'\n')
         }
         DaysBetween::NotDates => put_refused(rt, answer.number(), b'\n'),
@@ -126,33 +125,33 @@ fn narrow(value: u64) -> u32 {
 }
 
 // The line of the case at a position. It answers the position behind the case.
-fn put_case(rt: &impl Print, text: &[u8], at: usize) -> io::Result<usize> {
+fn put_case(rt: &impl Print, text: &[u8], at: usize) -> usize {
     let first = cases::number_at(text, at);
     let days = cases::number_at(text, first.next);
     let second = cases::number_at(text, days.next);
     let date = narrow(first.value);
-    cases::put(rt, calendar::is_date(date) as u64, b' ')?;
-    put_count(rt, date)?;
-    put_sum(rt, date, narrow(days.value))?;
-    put_between(rt, date, narrow(second.value))?;
-    Ok(second.next)
+    cases::put(rt, calendar::is_date(date) as u64, b' ');
+    put_count(rt, date);
+    put_sum(rt, date, narrow(days.value));
+    put_between(rt, date, narrow(second.value));
+    second.next
 }
 
 // The lines of the cases: their count comes first.
-fn put_cases(rt: &impl Print, text: &[u8]) -> io::Result<()> {
+fn put_cases(rt: &impl Print, text: &[u8]) {
     let count = cases::number_at(text, 0);
     let mut at = count.next;
     let mut left = count.value;
     while 0 < left {
-        at = put_case(rt, text, at)?;
+        at = put_case(rt, text, at);
         left -= 1;
     }
-    Ok(())
 }
 
 fn main(rt: HostRuntime) -> io::Result<()> {
-    put_years(&rt)?;
+    put_years(&rt);
     let mut buffer = [0u8; INPUT];
     let n = cases::read_full(&mut rt.stdin(), &mut buffer)?;
-    put_cases(&rt, &buffer[..n])
+    put_cases(&rt, &buffer[..n]);
+    Ok(())
 }

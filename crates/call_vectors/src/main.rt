@@ -1,7 +1,7 @@
 // Runs the calls of the input on a book, and prints the answer to each: its number, and its values.
 #![tactic(auto)]
 
-ghost use Rattle.std.specs.Prelude.{◌≤◌, ◌≡◌, length, IfOk};
+ghost use Rattle.std.specs.Prelude.{◌≤◌, ◌≡◌, length};
 ghost use Rattle.book_model.specs.Reached.{Reached};
 
 use book::{
@@ -63,16 +63,16 @@ fn read_list(text: &[u8], at: usize) -> Listed
     }
 }
 
-fn put_opened(rt: &impl Print, answer: OpenAnswer) -> io::Result<()> {
+fn put_opened(rt: &impl Print, answer: OpenAnswer) {
     match answer {
         OpenAnswer::Accepted => cases::put(rt, 0, b'\n'),
         OpenAnswer::Refused(refusal) => book_cases::put_refused(rt, refusal, 0),
     }
 }
 
-fn open_book(rt: &impl Print, book: Book, text: &[u8], at: usize) -> io::Result<Step>
+fn open_book(rt: &impl Print, book: Book, text: &[u8], at: usize) -> Step
     requires { Reached book }
-    ensures { IfOk result (λ step. Reached step.book) }
+    ensures { Reached result.book }
 {
     let first = cases::number_at(text, at);
     let term = cases::number_at(text, first.next);
@@ -90,11 +90,11 @@ fn open_book(rt: &impl Print, book: Book, text: &[u8], at: usize) -> io::Result<
         Cents(cents.value),
         holders,
         shares,
-    )?;
-    Ok(Step {
+    );
+    Step {
         book: opened,
         next: next,
-    })
+    }
 }
 
 fn open_listed(
@@ -106,11 +106,11 @@ fn open_listed(
     cents: Cents,
     holders: Listed,
     shares: Listed,
-) -> io::Result<Book>
+) -> Book
     requires reached { Reached book }
     requires holders_bound { (holders.count ≤ 70) × (length holders.numbers ≡ 70) }
     requires shares_bound { (shares.count ≤ 70) × (length shares.numbers ≡ 70) }
-    ensures { IfOk result (λ after. Reached after) }
+    ensures { Reached result }
 {
     let hs = holders.numbers;
     let ss = shares.numbers;
@@ -118,48 +118,48 @@ fn open_listed(
     let s = shares.count;
     let opened = book::open_book(book, first, term, annual, cents, &hs[..h], &ss[..s]);
     let answer = opened.answer;
-    put_opened(rt, answer)?;
-    Ok(opened.book)
+    put_opened(rt, answer);
+    opened.book
 }
 
-fn put_advanced(rt: &impl Print, answer: AdvanceAnswer) -> io::Result<()> {
+fn put_advanced(rt: &impl Print, answer: AdvanceAnswer) {
     match answer {
         AdvanceAnswer::Passed(days) => {
-            cases::put(rt, 0, b' ')?;
+            cases::put(rt, 0, b' ');
             cases::put(rt, days.0 as u64, b'\n')
         }
         AdvanceAnswer::Refused(refusal) => book_cases::put_refused(rt, refusal, 1),
     }
 }
 
-fn advance(rt: &impl Print, book: Book, text: &[u8], at: usize) -> io::Result<Step>
+fn advance(rt: &impl Print, book: Book, text: &[u8], at: usize) -> Step
     requires { Reached book }
-    ensures { IfOk result (λ step. Reached step.book) }
+    ensures { Reached result.book }
 {
     let date = cases::number_at(text, at);
     let advanced = book::advance(book, narrow(date.value));
     let answer = advanced.answer;
-    put_advanced(rt, answer)?;
+    put_advanced(rt, answer);
     let after = advanced.book;
-    Ok(Step {
+    Step {
         book: after,
         next: date.next,
-    })
+    }
 }
 
-fn put_transferred(rt: &impl Print, answer: TransferAnswer) -> io::Result<()> {
+fn put_transferred(rt: &impl Print, answer: TransferAnswer) {
     match answer {
         TransferAnswer::Remaining(parts) => {
-            cases::put(rt, 0, b' ')?;
+            cases::put(rt, 0, b' ');
             cases::put(rt, parts.0, b'\n')
         }
         TransferAnswer::Refused(refusal) => book_cases::put_refused(rt, refusal, 1),
     }
 }
 
-fn transfer(rt: &impl Print, book: Book, text: &[u8], at: usize) -> io::Result<Step>
+fn transfer(rt: &impl Print, book: Book, text: &[u8], at: usize) -> Step
     requires { Reached book }
-    ensures { IfOk result (λ step. Reached step.book) }
+    ensures { Reached result.book }
 {
     let cedent = cases::number_at(text, at);
     let assignee = cases::number_at(text, cedent.next);
@@ -171,129 +171,129 @@ fn transfer(rt: &impl Print, book: Book, text: &[u8], at: usize) -> io::Result<S
         Parts(parts.value),
     );
     let answer = transferred.answer;
-    put_transferred(rt, answer)?;
+    put_transferred(rt, answer);
     let after = transferred.book;
-    Ok(Step {
+    Step {
         book: after,
         next: parts.next,
-    })
+    }
 }
 
-fn put_settled(rt: &impl Print, answer: SettleAnswer) -> io::Result<()> {
+fn put_settled(rt: &impl Print, answer: SettleAnswer) {
     match answer {
         SettleAnswer::Taken {
             interest,
             principal,
         } => {
-            cases::put(rt, 0, b' ')?;
-            cases::put(rt, interest.0, b' ')?;
+            cases::put(rt, 0, b' ');
+            cases::put(rt, interest.0, b' ');
             cases::put(rt, principal.0, b'\n')
         }
         SettleAnswer::Refused(refusal) => book_cases::put_refused(rt, refusal, 2),
     }
 }
 
-fn settle(rt: &impl Print, book: Book, text: &[u8], at: usize) -> io::Result<Step>
+fn settle(rt: &impl Print, book: Book, text: &[u8], at: usize) -> Step
     requires { Reached book }
-    ensures { IfOk result (λ step. Reached step.book) }
+    ensures { Reached result.book }
 {
     let cents = cases::number_at(text, at);
     let settled = book::settle(book, Cents(cents.value));
     let answer = settled.answer;
-    put_settled(rt, answer)?;
+    put_settled(rt, answer);
     let after = settled.book;
-    Ok(Step {
+    Step {
         book: after,
         next: cents.next,
-    })
+    }
 }
 
-fn put_rated(rt: &impl Print, answer: RateAnswer) -> io::Result<()> {
+fn put_rated(rt: &impl Print, answer: RateAnswer) {
     match answer {
         RateAnswer::Revised { outstanding, due } => {
-            cases::put(rt, 0, b' ')?;
-            cases::put_signed(rt, outstanding.0, b' ')?;
+            cases::put(rt, 0, b' ');
+            cases::put_signed(rt, outstanding.0, b' ');
             cases::put_signed(rt, due.0, b'\n')
         }
         RateAnswer::Refused(refusal) => book_cases::put_refused(rt, refusal, 2),
     }
 }
 
-fn rate(rt: &impl Print, book: Book, text: &[u8], at: usize) -> io::Result<Step>
+fn rate(rt: &impl Print, book: Book, text: &[u8], at: usize) -> Step
     requires { Reached book }
-    ensures { IfOk result (λ step. Reached step.book) }
+    ensures { Reached result.book }
 {
     let date = cases::number_at(text, at);
     let annual = cases::number_at(text, date.next);
     let rated = book::rate(book, narrow(date.value), annual.value);
     let answer = rated.answer;
-    put_rated(rt, answer)?;
+    put_rated(rt, answer);
     let after = rated.book;
-    Ok(Step {
+    Step {
         book: after,
         next: annual.next,
-    })
+    }
 }
 
 // Reads the position of a holder. It answers the position behind the call.
-fn read_holder(rt: &impl Print, book: Book, text: &[u8], at: usize) -> io::Result<usize>
+fn read_holder(rt: &impl Print, book: Book, text: &[u8], at: usize) -> usize
     requires { Reached book }
 {
     let holder = cases::number_at(text, at);
     match book::position_of(book, narrow(holder.value)) {
         PositionAnswer::Held(position) => {
-            cases::put(rt, 0, b' ')?;
-            book_cases::put_position(rt, position)?;
+            cases::put(rt, 0, b' ');
+            book_cases::put_position(rt, position);
         }
-        PositionAnswer::Refused(refusal) => book_cases::put_refused(rt, refusal, 4)?,
+        PositionAnswer::Refused(refusal) => book_cases::put_refused(rt, refusal, 4),
     }
-    Ok(holder.next)
+    holder.next
 }
 
 // Reads the position at a place.
-fn read_place(rt: &impl Print, book: Book, text: &[u8], at: usize) -> io::Result<usize>
+fn read_place(rt: &impl Print, book: Book, text: &[u8], at: usize) -> usize
     requires { Reached book }
 {
     let place = cases::number_at(text, at);
     match book::position_at(book, place.value as usize) {
         PlaceAnswer::Placed { count, position } => {
-            cases::put(rt, 0, b' ')?;
-            cases::put(rt, count as u64, b' ')?;
-            book_cases::put_position(rt, position)?;
+            cases::put(rt, 0, b' ');
+            cases::put(rt, count as u64, b' ');
+            book_cases::put_position(rt, position);
         }
-        PlaceAnswer::Refused(refusal) => book_cases::put_refused(rt, refusal, 5)?,
+        PlaceAnswer::Refused(refusal) => book_cases::put_refused(rt, refusal, 5),
     }
-    Ok(place.next)
+    place.next
 }
 
 // The reader of a number: 5 by holder, 6 by place, else the totals.
-fn read_by(rt: &impl Print, book: Book, text: &[u8], kind: u64, at: usize) -> io::Result<usize>
+fn read_by(rt: &impl Print, book: Book, text: &[u8], kind: u64, at: usize) -> usize
     requires { Reached book }
 {
     match kind {
         5 => read_holder(rt, book, text, at),
         6 => read_place(rt, book, text, at),
         _ => {
-            book_cases::put_totals(rt, book)?;
-            Ok(at)
+            book_cases::put_totals(rt, book);
+            at
         }
     }
 }
 
 // One call: 0 is a new book, 1 Open, 2 Advance, 3 Transfer, 4 Settle, 8 Rate, and any other a reader.
-fn call(rt: &impl Print, book: Book, text: &[u8], at: usize) -> io::Result<Step>
+fn call(rt: &impl Print, book: Book, text: &[u8], at: usize) -> Step
     requires { Reached book }
-    ensures { IfOk result (λ step. Reached step.book) }
+    ensures { Reached result.book }
 {
     let kind = cases::number_at(text, at);
     let number = kind.value;
     match number {
         0 => {
-            cases::put(rt, 0, b'\n')?;
-            Ok(Step {
+            cases::put(rt, 0, b'\n');
+            Step {
                 book: Book::empty(),
                 next: kind.next,
-            })
+            }
         }
         1 => open_book(rt, book, text, kind.next),
         2 => advance(rt, book, text, kind.next),
@@ -301,32 +301,32 @@ fn call(rt: &impl Print, book: Book, text: &[u8], at: usize) -> io::Result<Step>
         4 => settle(rt, book, text, kind.next),
         8 => rate(rt, book, text, kind.next),
         _ => {
-            let next = read_by(rt, book, text, number, kind.next)?;
-            Ok(Step {
+            let next = read_by(rt, book, text, number, kind.next);
+            Step {
                 book: book,
                 next: next,
-            })
+            }
         }
     }
 }
 
 // The calls of the input: their count comes first.
-fn run(rt: &impl Print, text: &[u8]) -> io::Result<()> {
+fn run(rt: &impl Print, text: &[u8]) {
     let count = cases::number_at(text, 0);
     let mut book = Book::empty();
     let mut at = count.next;
     let mut left = count.value;
     while 0 < left {
-        let step = call(rt, book, text, at)?;
+        let step = call(rt, book, text, at);
         book = step.book;
         at = step.next;
         left -= 1;
     }
-    Ok(())
 }
 
 fn main(rt: HostRuntime) -> io::Result<()> {
     let mut buffer = [0u8; INPUT];
     let n = cases::read_full(&mut rt.stdin(), &mut buffer)?;
-    run(&rt, &buffer[..n])
+    run(&rt, &buffer[..n]);
+    Ok(())
 }

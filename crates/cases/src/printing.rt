@@ -1,10 +1,9 @@
-// Numbers printed. No contract can say what is printed.
-use std::io;
+// Numbers printed. No contract can say what is printed, and a write that fails is let go.
 
 // Prints a number and the byte behind it.
-pub fn put(rt: &impl Print, value: u64, end: u8) -> io::Result<()> {
-    rt.print(value)?;
-    rt.write_all(&[end])
+pub fn put(rt: &impl Print, value: u64, end: u8) {
+    let _ = rt.print(value);
+    let _ = rt.write_all(&[end]);
 }
 
 // A signed number without its sign. One less fits an i64, whatever the number.
@@ -16,9 +15,9 @@ fn size(value: i64) -> u64 {
 }
 
 // Prints a signed number and the byte behind it.
-pub fn put_signed(rt: &impl Print, value: i64, end: u8) -> io::Result<()> {
+pub fn put_signed(rt: &impl Print, value: i64, end: u8) {
     if value < 0 {
-        rt.write_all(b"-")?;
+        let _ = rt.write_all(b"-");
     }
-    put(rt, size(value), end)
+    put(rt, size(value), end);
 }

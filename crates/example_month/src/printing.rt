@@ -6,38 +6,38 @@ use book::{
     TotalsAnswer, TransferAnswer,
 };
 use line::put_number;
-use std::io;
 
-fn put_text(rt: &impl Print, text: &[u8]) -> io::Result<()> {
-    rt.write_all(text)
+// A write that fails is let go.
+fn put_text(rt: &impl Print, text: &[u8]) {
+    let _ = rt.write_all(text);
 }
 
 // A number, and the words behind it.
-fn put_count(rt: &impl Print, number: u64, text: &[u8]) -> io::Result<()> {
-    rt.print(number)?;
-    put_text(rt, text)
+fn put_count(rt: &impl Print, number: u64, text: &[u8]) {
+    let _ = rt.print(number);
+    put_text(rt, text);
 }
 
-fn put_refused(rt: &impl Print, refusal: Refusal) -> io::Result<()> {
-    put_text(rt, b"Refused with ")?;
+fn put_refused(rt: &impl Print, refusal: Refusal) {
+    put_text(rt, b"Refused with ");
     put_count(rt, refusal.number() as u64, b".\n")
 }
 
-pub fn put_opened(rt: &impl Print, answer: OpenAnswer) -> io::Result<()> {
+pub fn put_opened(rt: &impl Print, answer: OpenAnswer) {
     match answer {
         OpenAnswer::Accepted => put_text(rt, b"The right is open.\n"),
         OpenAnswer::Refused(refusal) => put_refused(rt, refusal),
     }
 }
 
-pub fn put_advanced(rt: &impl Print, answer: AdvanceAnswer) -> io::Result<()> {
+pub fn put_advanced(rt: &impl Print, answer: AdvanceAnswer) {
     match answer {
         AdvanceAnswer::Passed(days) => put_count(rt, days.0 as u64, b" days passed.\n"),
         AdvanceAnswer::Refused(refusal) => put_refused(rt, refusal),
     }
 }
 
-pub fn put_transferred(rt: &impl Print, answer: TransferAnswer) -> io::Result<()> {
+pub fn put_transferred(rt: &impl Print, answer: TransferAnswer) {
     match answer {
         TransferAnswer::Remaining(parts) => {
             put_count(rt, parts.0, b" parts remain with the cedent.\n")
@@ -46,20 +46,20 @@ pub fn put_transferred(rt: &impl Print, answer: TransferAnswer) -> io::Result<()
     }
 }
 
-pub fn put_settled(rt: &impl Print, answer: SettleAnswer) -> io::Result<()> {
+pub fn put_settled(rt: &impl Print, answer: SettleAnswer) {
     match answer {
         SettleAnswer::Taken {
             interest,
             principal,
         } => {
-            put_count(rt, interest.0, b" cents taken as interest, ")?;
+            put_count(rt, interest.0, b" cents taken as interest, ");
             put_count(rt, principal.0, b" as principal.\n")
         }
         SettleAnswer::Refused(refusal) => put_refused(rt, refusal),
     }
 }
 
-pub fn put_rated(rt: &impl Print, answer: RateAnswer) -> io::Result<()> {
+pub fn put_rated(rt: &impl Print, answer: RateAnswer) {
     match answer {
         RateAnswer::Revised {
             outstanding: _,
@@ -70,23 +70,23 @@ pub fn put_rated(rt: &impl Print, answer: RateAnswer) -> io::Result<()> {
 }
 
 // A line of the totals: a name, and a number in 15 columns.
-fn put_total(rt: &impl Print, name: &[u8], number: u64) -> io::Result<()> {
+fn put_total(rt: &impl Print, name: &[u8], number: u64) {
     let mut columns = [b'\n'; 16];
     put_number(&mut columns, 0, 15, number);
-    put_text(rt, name)?;
+    put_text(rt, name);
     put_text(rt, &columns)
 }
 
-pub fn put_totals(rt: &impl Print, book: Book) -> io::Result<()>
+pub fn put_totals(rt: &impl Print, book: Book)
     requires { Reached book }
 {
     match book::totals(book) {
         TotalsAnswer::Totals { today, account } => {
-            put_total(rt, b"\nToday                ", today as u64)?;
-            put_total(rt, b"Outstanding principal", account.outstanding.0)?;
-            put_total(rt, b"Interest due         ", account.due.0)?;
-            put_total(rt, b"and its fraction     ", account.fraction)?;
-            put_total(rt, b"Principal paid       ", account.principal_paid.0)?;
+            put_total(rt, b"\nToday                ", today as u64);
+            put_total(rt, b"Outstanding principal", account.outstanding.0);
+            put_total(rt, b"Interest due         ", account.due.0);
+            put_total(rt, b"and its fraction     ", account.fraction);
+            put_total(rt, b"Principal paid       ", account.principal_paid.0);
             put_total(rt, b"Interest paid        ", account.interest_paid.0)
         }
         TotalsAnswer::Refused(refusal) => put_refused(rt, refusal),
@@ -94,7 +94,7 @@ pub fn put_totals(rt: &impl Print, book: Book) -> io::Result<()>
 }
 
 // A position's columns, as wide as an H line's.
-fn put_position(rt: &impl Print, position: Position) -> io::Result<()> {
+fn put_position(rt: &impl Print, position: Position) {
     let mut columns = [b'\n'; 46];
     put_number(&mut columns, 0, 9, position.holder as u64);
     put_number(&mut columns, 9, 9, position.share.0);
@@ -104,17 +104,16 @@ fn put_position(rt: &impl Print, position: Position) -> io::Result<()> {
 }
 
 // Each position in book order, up to the first place that is refused.
-pub fn put_positions(rt: &impl Print, book: Book) -> io::Result<()>
+pub fn put_positions(rt: &impl Print, book: Book)
     requires { Reached book }
 {
-    put_text(rt, b"\n   Holder    Share   Unit-days       Received\n")?;
+    put_text(rt, b"\n   Holder    Share   Unit-days       Received\n");
     let mut place: usize = 0;
     while place < Book::POSITIONS {
         match book::position_at(book, place) {
-            PlaceAnswer::Placed { count: _, position } => put_position(rt, position)?,
-            PlaceAnswer::Refused(_) => return Ok(()),
+            PlaceAnswer::Placed { count: _, position } => put_position(rt, position),
+            PlaceAnswer::Refused(_) => return,
         }
         place += 1;
     }
-    Ok(())
 }

@@ -1,7 +1,7 @@
 // Loads the files of the input on a book, writes and reads its lines, and prints the answer to each case.
 #![tactic(auto)]
 
-ghost use Rattle.std.specs.Prelude.{◌≤◌, IfOk};
+ghost use Rattle.std.specs.Prelude.{◌≤◌};
 ghost use Rattle.book_model.specs.Reached.{Reached};
 
 use book::{Book, PlaceAnswer};
@@ -27,7 +27,7 @@ fn narrow(value: u64) -> u32 {
 }
 
 // All positions in book order, their number first.
-fn put_positions(rt: &impl Print, book: Book) -> io::Result<()>
+fn put_positions(rt: &impl Print, book: Book)
     requires { Reached book }
 {
     let mut i: usize = 0;
@@ -35,63 +35,62 @@ fn put_positions(rt: &impl Print, book: Book) -> io::Result<()>
         match book::position_at(book, i) {
             PlaceAnswer::Placed { count, position } => {
                 if i == 0 {
-                    cases::put(rt, count as u64, b'\n')?;
+                    cases::put(rt, count as u64, b'\n');
                 }
-                book_cases::put_position(rt, position)?;
+                book_cases::put_position(rt, position);
             }
             PlaceAnswer::Refused(_) => {
                 if i == 0 {
-                    cases::put(rt, 0, b'\n')?;
+                    cases::put(rt, 0, b'\n');
                 }
-                return Ok(());
+                return;
             }
         }
         i += 1;
     }
-    Ok(())
 }
 
 // Number, line and count of a load.
-fn put_answer(rt: &impl Print, answer: LoadAnswer) -> io::Result<()> {
+fn put_answer(rt: &impl Print, answer: LoadAnswer) {
     match answer {
         LoadAnswer::Accepted(count) => {
-            cases::put(rt, 0, b' ')?;
-            cases::put(rt, 0, b' ')?;
+            cases::put(rt, 0, b' ');
+            cases::put(rt, 0, b' ');
             cases::put(rt, count as u64, b' ')
         }
         LoadAnswer::Refused { refusal, line } => {
-            cases::put(rt, refusal.number() as u64, b' ')?;
-            cases::put(rt, line as u64, b' ')?;
+            cases::put(rt, refusal.number() as u64, b' ');
+            cases::put(rt, line as u64, b' ');
             cases::put(rt, 0, b' ')
         }
     }
 }
 
-fn put_part(rt: &impl Print, file: &[u8], answer: LoadAnswer) -> io::Result<()> {
+fn put_part(rt: &impl Print, file: &[u8], answer: LoadAnswer) {
     let bounds = file::part_bounds(file, answer);
-    cases::put(rt, bounds.start as u64, b' ')?;
-    cases::put(rt, bounds.end as u64, b' ')?;
+    cases::put(rt, bounds.start as u64, b' ');
+    cases::put(rt, bounds.end as u64, b' ');
     cases::put(rt, cases::digest(file::refused_part(file, answer)), b'\n')
 }
 
-fn load(rt: &impl Print, book: Book, file: &[u8]) -> io::Result<Book>
+fn load(rt: &impl Print, book: Book, file: &[u8]) -> Book
     requires { Reached book }
-    ensures { IfOk result (λ after. Reached after) }
+    ensures { Reached result }
 {
     let loaded = file::load(file, book);
     let answer = loaded.answer;
     let after = loaded.book;
-    put_answer(rt, answer)?;
-    put_part(rt, file, answer)?;
-    book_cases::put_totals(rt, after)?;
-    put_positions(rt, after)?;
-    Ok(after)
+    put_answer(rt, answer);
+    put_part(rt, file, answer);
+    book_cases::put_totals(rt, after);
+    put_positions(rt, after);
+    after
 }
 
 // Writes a line into a buffer, and prints its number and the buffer's digest.
-fn write(rt: &impl Print, buffer: &mut [u8], f: Fields) -> io::Result<()> {
+fn write(rt: &impl Print, buffer: &mut [u8], f: Fields) {
     let answer = line::write_line(buffer, f);
-    cases::put(rt, answer.number() as u64, b' ')?;
+    cases::put(rt, answer.number() as u64, b' ');
     cases::put(rt, cases::digest(buffer), b'\n')
 }
 
@@ -105,7 +104,7 @@ fn size_of(value: u64) -> usize
 }
 
 // It answers the position behind the case.
-fn write_case(rt: &impl Print, text: &[u8], at: usize) -> io::Result<usize> {
+fn write_case(rt: &impl Print, text: &[u8], at: usize) -> usize {
     let letter = cases::number_at(text, at);
     let date = cases::number_at(text, letter.next);
     let first = cases::number_at(text, date.next);
@@ -122,20 +121,20 @@ fn write_case(rt: &impl Print, text: &[u8], at: usize) -> io::Result<usize> {
     let mut buffer = [0u8; BUFFER];
     cases::fill(&mut buffer);
     let end = size_of(size.value);
-    write(rt, &mut buffer[..end], f)?;
-    Ok(size.next)
+    write(rt, &mut buffer[..end], f);
+    size.next
 }
 
-fn put_fields(rt: &impl Print, number: u64, f: Fields) -> io::Result<()> {
-    cases::put(rt, number, b' ')?;
-    cases::put(rt, f.letter as u64, b' ')?;
-    cases::put(rt, f.date as u64, b' ')?;
-    cases::put(rt, f.first as u64, b' ')?;
-    cases::put(rt, f.second as u64, b' ')?;
+fn put_fields(rt: &impl Print, number: u64, f: Fields) {
+    cases::put(rt, number, b' ');
+    cases::put(rt, f.letter as u64, b' ');
+    cases::put(rt, f.date as u64, b' ');
+    cases::put(rt, f.first as u64, b' ');
+    cases::put(rt, f.second as u64, b' ');
     cases::put(rt, f.third, b'\n')
 }
 
-fn read(rt: &impl Print, line: &[u8]) -> io::Result<()> {
+fn read(rt: &impl Print, line: &[u8]) {
     let answer = line::read_line(line);
     match answer {
         ReadAnswer::Read(f) => put_fields(rt, 0, f),
@@ -154,54 +153,54 @@ fn read(rt: &impl Print, line: &[u8]) -> io::Result<()> {
 }
 
 // One case: 0 is a new book, 1 a load, 2 a line written, and any other a line read.
-fn run_case(rt: &impl Print, book: Book, text: &[u8], at: usize) -> io::Result<Step>
+fn run_case(rt: &impl Print, book: Book, text: &[u8], at: usize) -> Step
     requires { Reached book }
-    ensures { IfOk result (λ step. Reached step.book) }
+    ensures { Reached result.book }
 {
     let kind = cases::number_at(text, at);
     let number = kind.value;
     if number == 0 {
-        cases::put(rt, 0, b'\n')?;
-        return Ok(Step {
+        cases::put(rt, 0, b'\n');
+        return Step {
             book: Book::empty(),
             next: kind.next,
-        });
+        };
     }
     if number == 2 {
-        let next = write_case(rt, text, kind.next)?;
-        return Ok(Step { book, next });
+        let next = write_case(rt, text, kind.next);
+        return Step { book, next };
     }
     let bytes = cases::bytes_at(text, kind.next);
     let start = bytes.start;
     let end = bytes.end;
     if number == 1 {
-        let after = load(rt, book, &text[start..end])?;
-        return Ok(Step {
+        let after = load(rt, book, &text[start..end]);
+        return Step {
             book: after,
             next: end,
-        });
+        };
     }
-    read(rt, &text[start..end])?;
-    Ok(Step { book, next: end })
+    read(rt, &text[start..end]);
+    Step { book, next: end }
 }
 
 // The cases of the input: their count comes first.
-fn run(rt: &impl Print, text: &[u8]) -> io::Result<()> {
+fn run(rt: &impl Print, text: &[u8]) {
     let count = cases::number_at(text, 0);
     let mut book = Book::empty();
     let mut at = count.next;
     let mut left = count.value;
     while 0 < left {
-        let step = run_case(rt, book, text, at)?;
+        let step = run_case(rt, book, text, at);
         book = step.book;
         at = step.next;
         left -= 1;
     }
-    Ok(())
 }
 
 fn main(rt: HostRuntime) -> io::Result<()> {
     let mut buffer = [0u8; INPUT];
     let n = cases::read_full(&mut rt.stdin(), &mut buffer)?;
-    run(&rt, &buffer[..n])
+    run(&rt, &buffer[..n]);
+    Ok(())
 }

@@ -26,11 +26,13 @@ fn begins_with_digit(text: &[u8]) -> bool {
 }
 
 // The statement, as the program `statement` prints it.
-fn put_statement(rt: &impl Print, file: &[u8]) -> io::Result<()> {
+fn put_statement(rt: &impl Print, file: &[u8]) {
     let mut out = [0u8; Reported::BYTES];
     match report::report(file, &mut out) {
-        Reported::Printed(count) => rt.write_all(&out[..count]),
-        Reported::Short => Ok(()),
+        Reported::Printed(count) => {
+            let _ = rt.write_all(&out[..count]);
+        }
+        Reported::Short => {}
     }
 }
 
@@ -46,11 +48,11 @@ fn ends_at(text: &[u8], end: usize) -> bool {
 }
 
 // What the settlements took, by the number of cents that a text has in its first line; nothing where something else stands there.
-fn put_settlements(rt: &impl Print, text: &[u8]) -> io::Result<()> {
+fn put_settlements(rt: &impl Print, text: &[u8]) {
     let number = cases::number_at(text, 0);
     let end = number.next;
     if !ends_at(text, end) {
-        return Ok(());
+        return;
     }
     let sum = taken_often(Cents(number.value));
     cases::put(rt, sum, b'\n')
@@ -60,8 +62,9 @@ fn main(rt: HostRuntime) -> io::Result<()> {
     let mut file = [0u8; INPUT];
     let n = cases::read_full(&mut rt.stdin(), &mut file)?;
     if begins_with_digit(&file[..n]) {
-        put_settlements(&rt, &file[..n])
+        put_settlements(&rt, &file[..n]);
     } else {
-        put_statement(&rt, &file[..n])
+        put_statement(&rt, &file[..n]);
     }
+    Ok(())
 }

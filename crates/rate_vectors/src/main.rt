@@ -2,7 +2,6 @@
 #![tactic(auto)]
 
 use rates::DailyRate;
-use std::io;
 
 // Annual rates over the greatest.
 const REFUSED: [u64; 7] = [
@@ -16,32 +15,31 @@ const REFUSED: [u64; 7] = [
 ];
 
 // The line of an annual rate.
-fn put_rate(rt: &impl Print, annual: u64) -> io::Result<()> {
-    cases::put(rt, annual, b' ')?;
+fn put_rate(rt: &impl Print, annual: u64) {
+    cases::put(rt, annual, b' ');
     let answer = rates::daily_rate(annual);
     let value = match answer {
         DailyRate::Daily(daily) => daily,
         DailyRate::Refused => 0,
     };
-    cases::put(rt, answer.number() as u64, b' ')?;
+    cases::put(rt, answer.number() as u64, b' ');
     cases::put(rt, value, b'\n')
 }
 
 // The lines of the refused rates.
-fn put_refused(rt: &impl Print) -> io::Result<()> {
+fn put_refused(rt: &impl Print) {
     let mut i: usize = 0;
     while i < 7 {
-        put_rate(rt, REFUSED[i])?;
+        put_rate(rt, REFUSED[i]);
         i += 1;
     }
-    Ok(())
 }
 
-fn main(rt: HostRuntime) -> io::Result<()> {
+fn main(rt: HostRuntime) {
     let mut annual: u64 = 0;
     while annual <= rates::GREATEST {
-        put_rate(&rt, annual)?;
+        put_rate(&rt, annual);
         annual += 1;
     }
-    put_refused(&rt)
+    put_refused(&rt);
 }

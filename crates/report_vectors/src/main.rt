@@ -12,18 +12,18 @@ const INPUT: usize = 262144;
 // The most bytes of a buffer.
 const BUFFER: usize = 4000;
 
-fn put_report(rt: &impl Print, file: &[u8], buffer: &mut [u8]) -> io::Result<()> {
+fn put_report(rt: &impl Print, file: &[u8], buffer: &mut [u8]) {
     let answer = report::report(file, buffer);
     match answer {
         Reported::Printed(count) => {
-            cases::put(rt, 0, b' ')?;
-            cases::put(rt, count as u64, b' ')?;
-            cases::put(rt, cases::digest(buffer), b'\n')?;
-            rt.write_all(&buffer[..count])
+            cases::put(rt, 0, b' ');
+            cases::put(rt, count as u64, b' ');
+            cases::put(rt, cases::digest(buffer), b'\n');
+            let _ = rt.write_all(&buffer[..count]);
         }
         Reported::Short => {
-            cases::put(rt, answer.number() as u64, b' ')?;
-            cases::put(rt, 0, b' ')?;
+            cases::put(rt, answer.number() as u64, b' ');
+            cases::put(rt, 0, b' ');
             cases::put(rt, cases::digest(buffer), b'\n')
         }
     }
@@ -39,7 +39,7 @@ fn size_of(value: u64) -> usize
 }
 
 // One case: the buffer's size, and the file. It answers the position behind the case.
-fn run_case(rt: &impl Print, text: &[u8], at: usize, buffer: &mut [u8]) -> io::Result<usize>
+fn run_case(rt: &impl Print, text: &[u8], at: usize, buffer: &mut [u8]) -> usize
     requires { length buffer.old ≡ 4000 }
 {
     let size = cases::number_at(text, at);
@@ -48,27 +48,27 @@ fn run_case(rt: &impl Print, text: &[u8], at: usize, buffer: &mut [u8]) -> io::R
     let end = bytes.end;
     let limit = size_of(size.value);
     cases::fill(buffer);
-    put_report(rt, &text[start..end], &mut buffer[..limit])?;
-    Ok(end)
+    put_report(rt, &text[start..end], &mut buffer[..limit]);
+    end
 }
 
 // The cases of the input: their count comes first.
-fn run(rt: &impl Print, text: &[u8], buffer: &mut [u8]) -> io::Result<()>
+fn run(rt: &impl Print, text: &[u8], buffer: &mut [u8])
     requires { length buffer.old ≡ 4000 }
 {
     let count = cases::number_at(text, 0);
     let mut at = count.next;
     let mut left = count.value;
     while 0 < left {
-        at = run_case(rt, text, at, buffer)?;
+        at = run_case(rt, text, at, buffer);
         left -= 1;
     }
-    Ok(())
 }
 
 fn main(rt: HostRuntime) -> io::Result<()> {
     let mut input = [0u8; INPUT];
     let n = cases::read_full(&mut rt.stdin(), &mut input)?;
     let mut buffer = [0u8; BUFFER];
-    run(&rt, &input[..n], &mut buffer)
+    run(&rt, &input[..n], &mut buffer);
+    Ok(())
 }

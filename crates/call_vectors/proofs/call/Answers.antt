@@ -3,5 +3,5 @@ use Rattle.std.proofs.Common.{sym, subst}
 use Rattle.book_model.specs.Reached.{Reached, empty}
 use Rattle.call_vectors.proofs.call.Goals as goal
 
-pub returns-in_ok-put-in-0 : goal.returns-in_ok-put-in-0
-returns-in_ok-put-in-0 g c = subst Reached (sym c.empty.ensures) empty
+pub returns-in-0 : goal.returns-in-0
+returns-in-0 g c = subst Reached (sym c.empty.ensures) empty
