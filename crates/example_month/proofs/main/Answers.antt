@@ -3,5 +3,5 @@ use Rattle.std.proofs.Common.{sym, subst}
 use Rattle.book_model.specs.Reached.{Reached, empty}
 use Rattle.example_month.proofs.main.Goals as goal
 
-pub month-requires : goal.month-requires
-month-requires c = subst Reached (sym c.empty.ensures) empty
+pub month-book-requires : goal.month-book-requires
+month-book-requires c = subst Reached (sym c.empty.ensures) empty
