@@ -23,7 +23,7 @@ fn put_parts(rt: &impl Print, parts: &[u64; POSITIONS]) {
         cases::put(rt, parts[i], b' ');
         i += 1;
     }
-    cases::put(rt, parts[POSITIONS - 1], b'\n')
+    cases::put(rt, parts[POSITIONS - 1], b'\n');
 }
 
 // Reads so many weights, at most 64. It answers the position behind them.

@@ -7,24 +7,24 @@ use book::{Book, Position, Refusal, TotalsAnswer};
 
 // The number of a refusal, and so many zeros behind it.
 pub fn put_refused(rt: &impl Print, refusal: Refusal, zeros: u32) {
-    let number = refusal.number() as u64;
     if zeros == 0 {
-        return cases::put(rt, number, b'\n');
+        cases::put(rt, refusal.number() as u64, b'\n');
+        return;
     }
-    cases::put(rt, number, b' ');
+    cases::put(rt, refusal.number() as u64, b' ');
     let mut left = zeros;
     while 1 < left {
         cases::put(rt, 0, b' ');
         left -= 1;
     }
-    cases::put(rt, 0, b'\n')
+    cases::put(rt, 0, b'\n');
 }
 
 pub fn put_position(rt: &impl Print, position: Position) {
     cases::put(rt, position.holder as u64, b' ');
     cases::put(rt, position.share.0, b' ');
     cases::put(rt, position.unit_days as u64, b' ');
-    cases::put(rt, position.received.0, b'\n')
+    cases::put(rt, position.received.0, b'\n');
 }
 
 // A book's totals, or its refusal.
@@ -39,7 +39,7 @@ pub fn put_totals(rt: &impl Print, book: Book)
             cases::put(rt, account.due.0, b' ');
             cases::put(rt, account.fraction, b' ');
             cases::put(rt, account.principal_paid.0, b' ');
-            cases::put(rt, account.interest_paid.0, b'\n')
+            cases::put(rt, account.interest_paid.0, b'\n');
         }
         TotalsAnswer::Refused(refusal) => put_refused(rt, refusal, 6),
     }

@@ -84,7 +84,7 @@ fn put_years(rt: &impl Print) {
 // The number of a refusal, and no value.
 fn put_refused(rt: &impl Print, number: u32, end: u8) {
     cases::put(rt, number as u64, b' ');
-    cases::put(rt, 0, end)
+    cases::put(rt, 0, end);
 }
 
 fn put_count(rt: &impl Print, date: u32) {
@@ -92,7 +92,7 @@ fn put_count(rt: &impl Print, date: u32) {
     match answer {
         DayCount::Day(day) => {
             cases::put(rt, 0, b' ');
-            cases::put(rt, day as u64, b' ')
+            cases::put(rt, day as u64, b' ');
         }
         DayCount::NoDate => put_refused(rt, answer.number(), b' '),
     }
@@ -103,7 +103,7 @@ fn put_sum(rt: &impl Print, date: u32, days: u32) {
     match answer {
         DateSum::Date(sum) => {
             cases::put(rt, 0, b' ');
-            cases::put(rt, sum as u64, b' ')
+            cases::put(rt, sum as u64, b' ');
         }
         DateSum::Refused => put_refused(rt, answer.number(), b' '),
     }
@@ -114,7 +114,7 @@ fn put_between(rt: &impl Print, from: u32, to: u32) {
     match answer {
         DaysBetween::Days(days) => {
             cases::put(rt, 0, b' ');
-            cases::put_signed(rt, days, b'\n')
+            cases::put_signed(rt, days, b'\n');
         }
         DaysBetween::NotDates => put_refused(rt, answer.number(), b'\n'),
     }

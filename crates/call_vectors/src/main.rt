@@ -126,7 +126,7 @@ fn put_advanced(rt: &impl Print, answer: AdvanceAnswer) {
     match answer {
         AdvanceAnswer::Passed(days) => {
             cases::put(rt, 0, b' ');
-            cases::put(rt, days.0 as u64, b'\n')
+            cases::put(rt, days.0 as u64, b'\n');
         }
         AdvanceAnswer::Refused(refusal) => book_cases::put_refused(rt, refusal, 1),
     }
@@ -151,7 +151,7 @@ fn put_transferred(rt: &impl Print, answer: TransferAnswer) {
     match answer {
         TransferAnswer::Remaining(parts) => {
             cases::put(rt, 0, b' ');
-            cases::put(rt, parts.0, b'\n')
+            cases::put(rt, parts.0, b'\n');
         }
         TransferAnswer::Refused(refusal) => book_cases::put_refused(rt, refusal, 1),
     }
@@ -187,7 +187,7 @@ fn put_settled(rt: &impl Print, answer: SettleAnswer) {
         } => {
             cases::put(rt, 0, b' ');
             cases::put(rt, interest.0, b' ');
-            cases::put(rt, principal.0, b'\n')
+            cases::put(rt, principal.0, b'\n');
         }
         SettleAnswer::Refused(refusal) => book_cases::put_refused(rt, refusal, 2),
     }
@@ -213,7 +213,7 @@ fn put_rated(rt: &impl Print, answer: RateAnswer) {
         RateAnswer::Revised { outstanding, due } => {
             cases::put(rt, 0, b' ');
             cases::put_signed(rt, outstanding.0, b' ');
-            cases::put_signed(rt, due.0, b'\n')
+            cases::put_signed(rt, due.0, b'\n');
         }
         RateAnswer::Refused(refusal) => book_cases::put_refused(rt, refusal, 2),
     }

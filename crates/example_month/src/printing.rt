@@ -20,7 +20,7 @@ fn put_count(rt: &impl Print, number: u64, text: &[u8]) {
 
 fn put_refused(rt: &impl Print, refusal: Refusal) {
     put_text(rt, b"Refused with ");
-    put_count(rt, refusal.number() as u64, b".\n")
+    put_count(rt, refusal.number() as u64, b".\n");
 }
 
 pub fn put_opened(rt: &impl Print, answer: OpenAnswer) {
@@ -40,7 +40,7 @@ pub fn put_advanced(rt: &impl Print, answer: AdvanceAnswer) {
 pub fn put_transferred(rt: &impl Print, answer: TransferAnswer) {
     match answer {
         TransferAnswer::Remaining(parts) => {
-            put_count(rt, parts.0, b" parts remain with the cedent.\n")
+            put_count(rt, parts.0, b" parts remain with the cedent.\n");
         }
         TransferAnswer::Refused(refusal) => put_refused(rt, refusal),
     }
@@ -53,7 +53,7 @@ pub fn put_settled(rt: &impl Print, answer: SettleAnswer) {
             principal,
         } => {
             put_count(rt, interest.0, b" cents taken as interest, ");
-            put_count(rt, principal.0, b" as principal.\n")
+            put_count(rt, principal.0, b" as principal.\n");
         }
         SettleAnswer::Refused(refusal) => put_refused(rt, refusal),
     }
@@ -74,7 +74,7 @@ fn put_total(rt: &impl Print, name: &[u8], number: u64) {
     let mut columns = [b'\n'; 16];
     put_number(&mut columns, 0, 15, number);
     put_text(rt, name);
-    put_text(rt, &columns)
+    put_text(rt, &columns);
 }
 
 pub fn put_totals(rt: &impl Print, book: Book)
@@ -87,7 +87,7 @@ pub fn put_totals(rt: &impl Print, book: Book)
             put_total(rt, b"Interest due         ", account.due.0);
             put_total(rt, b"and its fraction     ", account.fraction);
             put_total(rt, b"Principal paid       ", account.principal_paid.0);
-            put_total(rt, b"Interest paid        ", account.interest_paid.0)
+            put_total(rt, b"Interest paid        ", account.interest_paid.0);
         }
         TotalsAnswer::Refused(refusal) => put_refused(rt, refusal),
     }
@@ -100,7 +100,7 @@ fn put_position(rt: &impl Print, position: Position) {
     put_number(&mut columns, 9, 9, position.share.0);
     put_number(&mut columns, 18, 12, position.unit_days as u64);
     put_number(&mut columns, 30, 15, position.received.0);
-    put_text(rt, &columns)
+    put_text(rt, &columns);
 }
 
 // Each position in book order, up to the first place that is refused.

@@ -56,12 +56,12 @@ fn put_answer(rt: &impl Print, answer: LoadAnswer) {
         LoadAnswer::Accepted(count) => {
             cases::put(rt, 0, b' ');
             cases::put(rt, 0, b' ');
-            cases::put(rt, count as u64, b' ')
+            cases::put(rt, count as u64, b' ');
         }
         LoadAnswer::Refused { refusal, line } => {
             cases::put(rt, refusal.number() as u64, b' ');
             cases::put(rt, line as u64, b' ');
-            cases::put(rt, 0, b' ')
+            cases::put(rt, 0, b' ');
         }
     }
 }
@@ -70,7 +70,7 @@ fn put_part(rt: &impl Print, file: &[u8], answer: LoadAnswer) {
     let bounds = file::part_bounds(file, answer);
     cases::put(rt, bounds.start as u64, b' ');
     cases::put(rt, bounds.end as u64, b' ');
-    cases::put(rt, cases::digest(file::refused_part(file, answer)), b'\n')
+    cases::put(rt, cases::digest(file::refused_part(file, answer)), b'\n');
 }
 
 fn load(rt: &impl Print, book: Book, file: &[u8]) -> Book
@@ -91,7 +91,7 @@ fn load(rt: &impl Print, book: Book, file: &[u8]) -> Book
 fn write(rt: &impl Print, buffer: &mut [u8], f: Fields) {
     let answer = line::write_line(buffer, f);
     cases::put(rt, answer.number() as u64, b' ');
-    cases::put(rt, cases::digest(buffer), b'\n')
+    cases::put(rt, cases::digest(buffer), b'\n');
 }
 
 fn size_of(value: u64) -> usize
@@ -131,7 +131,7 @@ fn put_fields(rt: &impl Print, number: u64, f: Fields) {
     cases::put(rt, f.date as u64, b' ');
     cases::put(rt, f.first as u64, b' ');
     cases::put(rt, f.second as u64, b' ');
-    cases::put(rt, f.third, b'\n')
+    cases::put(rt, f.third, b'\n');
 }
 
 fn read(rt: &impl Print, line: &[u8]) {

@@ -55,7 +55,7 @@ fn put_settlements(rt: &impl Print, text: &[u8]) {
         return;
     }
     let sum = taken_often(Cents(number.value));
-    cases::put(rt, sum, b'\n')
+    cases::put(rt, sum, b'\n');
 }
 
 fn main(rt: HostRuntime) -> io::Result<()> {

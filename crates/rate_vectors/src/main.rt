@@ -18,12 +18,11 @@ const REFUSED: [u64; 7] = [
 fn put_rate(rt: &impl Print, annual: u64) {
     cases::put(rt, annual, b' ');
     let answer = rates::daily_rate(annual);
-    let value = match answer {
-        DailyRate::Daily(daily) => daily,
-        DailyRate::Refused => 0,
-    };
     cases::put(rt, answer.number() as u64, b' ');
-    cases::put(rt, value, b'\n')
+    match answer {
+        DailyRate::Daily(daily) => cases::put(rt, daily, b'\n'),
+        DailyRate::Refused => cases::put(rt, 0, b'\n'),
+    }
 }
 
 // The lines of the refused rates.

@@ -24,7 +24,7 @@ fn put_report(rt: &impl Print, file: &[u8], buffer: &mut [u8]) {
         Reported::Short => {
             cases::put(rt, answer.number() as u64, b' ');
             cases::put(rt, 0, b' ');
-            cases::put(rt, cases::digest(buffer), b'\n')
+            cases::put(rt, cases::digest(buffer), b'\n');
         }
     }
 }
