@@ -1,8 +1,8 @@
 -- The figures of an account stay within bounds: at most `day_interest` and a cent of interest a day, and no principal but the first.
-use Prim.Native.Nat.{ℕ, zero, suc, ◌+◌, ◌-◌, ◌*◌, ◌≤◌}
+use Prim.Native.Nat.{ℕ, zero, suc, ◌+◌, ◌*◌, ◌/◌, ◌%◌, ◌≤◌}
 use native.Mathlib.Omega.{arith}
 use native.Mathlib.Nat.{mul-le-mul, min-le_right, add-zero, add-suc}
-use mathlib.Core.Path.{◌≡◌, refl, subst}
+use mathlib.Core.Path.{◌≡◌, refl}
 use mathlib.Core.Bool.{cond}
 use mathlib.Core.List.{List, [], ◌∷◌}
 use lib.Dec.{leb}
@@ -13,7 +13,7 @@ use Rattle.account.specs.declared.RateOrder.{RateOrder}
 use Rattle.account.specs.Accrual.{accrued_day, accrued_days, paid_off, worth}
 use Rattle.account.specs.Opening.{opening}
 use Rattle.account.specs.Schedule.{in_force, stored_on}
-use Rattle.account.specs.Invariant.{Fits, Bounded, Moderate}
+use Rattle.account.specs.Invariant.{Fits, Bounded, Moderate, day_interest}
 use Rattle.account.specs.Walk.{elapsed}
 
 -- Bounded holds of an opening, and is kept
@@ -21,9 +21,6 @@ use Rattle.account.specs.Walk.{elapsed}
 pub bounded-opening : (cents : ℕ) → cents ≤ 1000000000000 → Bounded 0 (opening cents)
 unfolding opening
 bounded-opening cents le = record { principal = omega arith; below = omega arith; interest = omega arith }
-
-pub bounded-more : (k m : ℕ) (a : Account) → k ≤ m → Bounded k a → Bounded m a
-bounded-more k m a le h = record { principal = h.principal; below = h.below; interest = omega arith }
 
 -- after at most 6,000 days each figure fits
 pub fits : (n : ℕ) (a : Account) → n ≤ 6000 → Bounded n a → Fits a
@@ -38,6 +35,17 @@ fits n a le h =
 
 pub product_bound : (d : ℕ) (a : Account) → d ≤ greatest_daily → a.outstanding.0 ≤ 1000000000000 → a.outstanding.0 * d ≤ 1000000000000 * greatest_daily
 product_bound d a low le = mul-le-mul le low
+
+-- the products of days at one rate fit
+
+pub whole_bound : (k d : ℕ) (a : Account) → k ≤ 6000 → d ≤ greatest_daily → Fits a → k * (a.outstanding.0 * d / 10000000000) ≤ 6000 * day_interest
+whole_bound k d a few low h =
+    let g = product_bound d a low h.principal in
+    let q : a.outstanding.0 * d / 10000000000 ≤ day_interest = omega arith in
+    mul-le-mul few q
+
+pub rest_bound : (k p : ℕ) → k ≤ 6000 → k * (p % 10000000000) ≤ 6000 * 10000000000
+rest_bound k p few = let r : p % 10000000000 ≤ 10000000000 = omega arith in mul-le-mul few r
 
 pub bounded-day : (n d : ℕ) (a : Account) → d ≤ greatest_daily → Bounded n a → Bounded (suc n) (accrued_day d a)
 unfolding accrued_day
@@ -92,11 +100,3 @@ in_force_moderate daily (o ∷ orders) day le p =
 
 pub stored-most : (orders : List RateOrder) → Moderate orders → (day : ℕ) → stored_on orders day ≤ greatest_daily
 stored-most orders p day = in_force_moderate 0 orders day (omega arith) p
-
--- the account of a later day is bounded by that day
-pub bounded_between : (orders : List RateOrder) (from day : ℕ) (a : Account) → Moderate orders → from ≤ day → Bounded from a
-    → Bounded day (elapsed (stored_on orders) from (day - from) a)
-bounded_between orders from day a p le h =
-    let at : from + (day - from) ≡ day = omega arith in
-    subst (λ (n : ℕ). Bounded n (elapsed (stored_on orders) from (day - from) a)) at
-    (bounded-elapsed (stored_on orders) from (day - from) a (stored-most orders p) h)

@@ -14,5 +14,6 @@ pub use Rattle.account.proofs.AccountSteps.{account-elapsed, account_paid_off, b
 pub use Rattle.account.proofs.NotOverpaid.{not_over_joined, principal-whole}
 -- Where no settlement is over due plus outstanding, the account of every day stays within the bounds of that day.
 pub use Rattle.account.proofs.AccountBounds.{account-bounded}
--- What callers whose numbers are in range learn of an answer.
-pub use Rattle.account.proofs.InRange.{accrued_in_range, accrued-is, accrued-within, in_range, is-over, paid_in_range, paid-is, paid-within, replay-told, stands}
+-- The answers of the entries where every number is in range, and what callers learn of one.
+pub use Rattle.account.proofs.Reckonings.{accrues, pays, replays}
+pub use Rattle.account.proofs.InRange.{is-over, stands}

@@ -20,17 +20,10 @@ together (suc k) d a below =
     let more = suc-mul k (a.outstanding.0 * d) in
     ap (accrued_day d) (together k d a below) ∙ same-interest a (omega arith) (omega arith)
 
-whole : (p : ℕ) → p ≡ 10000000000 * (p / 10000000000) + p % 10000000000
-whole p = omega arith
-
-swap : (k q : ℕ) → k * (10000000000 * q) ≡ 10000000000 * (k * q)
-swap k q = sym (mul_assoc k 10000000000 q) ∙ ap (λ (n : ℕ). n * q) (mul_comm k 10000000000) ∙ mul_assoc 10000000000 k q
-
 split : (k p : ℕ) → k * p ≡ 10000000000 * (k * (p / 10000000000)) + k * (p % 10000000000)
 split k p =
-    ap (λ (n : ℕ). k * n) (whole p)
-    ∙ mul-add k (10000000000 * (p / 10000000000)) (p % 10000000000)
-    ∙ ap (λ (n : ℕ). n + k * (p % 10000000000)) (swap k (p / 10000000000))
+    let whole : p ≡ 10000000000 * (p / 10000000000) + p % 10000000000 = omega arith in
+    grind (arith, mul-add k (10000000000 * (p / 10000000000)) (p % 10000000000), mul_assoc k 10000000000 (p / 10000000000), mul_comm k 10000000000, mul_assoc 10000000000 k (p / 10000000000))
 
 pub closed_form : (k d : ℕ) (a : Account) → a.fraction < 10000000000
     → with_interest a

@@ -1,34 +1,36 @@
 -- The account evaluated from settlement to settlement is the account as a function of the day.
 use Prim.Native.Nat.{ℕ, ◌+◌, ◌-◌, ◌≤◌, ◌<◌}
 use native.Mathlib.Omega.{arith}
+use native.Mathlib.Numerals.{add-one}
 use mathlib.Core.Path.{◌≡◌, refl, sym, ap, ◌∙◌}
-use mathlib.Core.Bool.{Bool, true, false, cond, ◌||◌}
+use mathlib.Core.Bool.{Bool, true, false, cond, not, ◌||◌}
 use mathlib.Core.Option.{none}
 use mathlib.Core.List.{List, [], ◌∷◌, ◌++◌, append-nil}
-use borrow.Author.Tests.{ne_eqb, lt-ltb, le-ltb}
-use lib.Dec.{ltb}
-use lib.ListN.{length, take, drop, get_or}
-use lib.Seq.{append_snoc}
-use Rattle.general_laws.proofs.Fronts.{remains, none-remains}
+use borrow.Author.Tests.{ne_eqb, eqb-true, lt-ltb, le-ltb, le-leb}
+use lib.Dec.{ltb, eqb}
+use lib.ListN.{length, drop, get_or, drop_of_length-le}
+use lib.Seq.{append_snoc, drop-cons}
+use Rattle.general_laws.proofs.Choice.{both_true}
+use Rattle.std.specs.Prelude.{Result, Ok, Err}
 use Rattle.account.specs.declared.Account.{Account}
+use Rattle.account.specs.declared.RateOrder.{RateOrder}
 use Rattle.account.specs.declared.Settlement.{Settlement}
-use Rattle.account.specs.declared.Reckoned.{Reckoned}
-use Rattle.account.specs.declared.Reckoned.TheVariants.{Standing, Overpaid}
+use Rattle.account.specs.declared.Unreckoned.{Unreckoned}
+use Rattle.account.specs.declared.Unreckoned.TheVariants.{Overpaid, OutOfRange}
+use Rattle.account.specs.declared.walking.Elapsed.{Elapsed}
 use Rattle.account.specs.Accrual.{paid_off, worth}
 use Rattle.account.specs.Opening.{opening, no_settlement}
 use Rattle.account.specs.Invariant.{Timely}
-use Rattle.account.specs.Walk.{elapsed}
+use Rattle.account.specs.Ranges.{is_first, is_rising, is_schedule, is_timely}
+use Rattle.account.specs.Schedule.{in_force, stored_on}
+use Rattle.account.specs.Walk.{elapsed, ahead, Come, Went, replay_from, left_of}
 use Rattle.account.specs.Reckoning.{standing}
 use Rattle.account.specs.Standing.{settled_on, day_begins, account_at, is_over, some_of, overpaid}
 use Rattle.account.proofs.AccountSteps.{begins-same, account-elapsed, account_paid_off}
+use Rattle.account.proofs.Bounds.{bounded-paid}
+use Rattle.account.proofs.RangeTests.{timely_says}
+use Rattle.account.proofs.Segments.{elapsed_same}
 use Rattle.account.proofs.SettledDays.{none_yet, settled-first, settled-other}
-
--- what is left of a replay: the settlements to come, from an account on a day
-unfoldable pub replay_from : (ℕ → ℕ) → Account → ℕ → List Settlement → ℕ → Reckoned
-replay_from daily a from [] today = Standing (elapsed daily from (today - from) a)
-replay_from daily a from (s ∷ ss) today =
-    cond (ltb (worth (elapsed daily from (s.day.0 - from) a)) s.cents.0) Overpaid
-    (replay_from daily (paid_off s.cents.0 (elapsed daily from (s.day.0 - from) a)) s.day.0 ss today)
 
 -- before the first of the settlements to come there is none
 none_before : (s : Settlement) (ss : List Settlement) (today t : ℕ) → Timely s.day.0 ss today → t < s.day.0 → settled_on (s ∷ ss) t ≡ none
@@ -55,7 +57,7 @@ module _ (cents : ℕ) (daily : ℕ → ℕ) where
 
   replay-from : (done ss : List Settlement) (from today : ℕ) → ((t : ℕ) → from < t → settled_on done t ≡ none) → Timely from ss today
       → replay_from daily (account_at cents daily done from) from ss today
-      ≡ cond (some_of (is_over cents daily (done ++ ss)) ss) Overpaid (Standing (account_at cents daily (done ++ ss) today))
+      ≡ cond (some_of (is_over cents daily (done ++ ss)) ss) (Err Overpaid) (Ok (account_at cents daily (done ++ ss) today))
   unfolding replay_from
   replay-from done [] from today quiet timely = rw (append-nil done, elapsed_to done from today quiet timely)
   replay-from done (s ∷ ss) from today quiet timely =
@@ -70,16 +72,16 @@ module _ (cents : ℕ) (daily : ℕ → ℕ) where
     where
       go : (b e : Account) → b ≡ e
           → replay_from daily (paid_off s.cents.0 b) s.day.0 ss today
-          ≡ cond (some_of (is_over cents daily (done ++ s ∷ ss)) ss) Overpaid (Standing (account_at cents daily (done ++ s ∷ ss) today))
-          → cond (ltb (worth b) s.cents.0) Overpaid (replay_from daily (paid_off s.cents.0 b) s.day.0 ss today)
-          ≡ cond (ltb (worth e) s.cents.0 || some_of (is_over cents daily (done ++ s ∷ ss)) ss) Overpaid
-          (Standing (account_at cents daily (done ++ s ∷ ss) today))
+          ≡ cond (some_of (is_over cents daily (done ++ s ∷ ss)) ss) (Err Overpaid) (Ok (account_at cents daily (done ++ s ∷ ss) today))
+          → cond (ltb (worth b) s.cents.0) (Err Overpaid) (replay_from daily (paid_off s.cents.0 b) s.day.0 ss today)
+          ≡ cond (ltb (worth e) s.cents.0 || some_of (is_over cents daily (done ++ s ∷ ss)) ss) (Err Overpaid)
+          (Ok (account_at cents daily (done ++ s ∷ ss) today))
       go b e same ih = rw (← same) (by (ltb (worth b) s.cents.0))
         where
           by : (t : Bool)
-              → cond t Overpaid (replay_from daily (paid_off s.cents.0 b) s.day.0 ss today)
-              ≡ cond (t || some_of (is_over cents daily (done ++ s ∷ ss)) ss) Overpaid
-              (Standing (account_at cents daily (done ++ s ∷ ss) today))
+              → cond t (Err Overpaid) (replay_from daily (paid_off s.cents.0 b) s.day.0 ss today)
+              ≡ cond (t || some_of (is_over cents daily (done ++ s ∷ ss)) ss) (Err Overpaid)
+              (Ok (account_at cents daily (done ++ s ∷ ss) today))
           by true = refl
           by false = ih
 
@@ -88,41 +90,115 @@ module _ (cents : ℕ) (daily : ℕ → ℕ) where
   unfolding standing overpaid account_at day_begins settled_on
   replay-whole ss today timely = replay-from [] ss 0 today (λ t lt. refl) timely
 
--- One turn of the loop over the settlements: `x` is what the whole replay gives, and `over` whether a settlement so far was over
+-- The whole of a replay, and what is left of it behind a settlement
 
-over-kept : (over : Bool) (x r : Reckoned) → x ≡ cond over Overpaid r → r ≡ Overpaid → x ≡ Overpaid
-over-kept true x r e f = e
-over-kept false x r e f = e ∙ f
+-- rates that are the same from the day on
+replay_same : (daily daily' : ℕ → ℕ) (ss : List Settlement) (today : ℕ) (a : Account) (from : ℕ) → Timely from ss today
+    → ((t : ℕ) → from ≤ t → daily t ≡ daily' t) → replay_from daily a from ss today ≡ replay_from daily' a from ss today
+unfolding replay_from
+replay_same daily daily' [] today a from timely same = rw (elapsed_same daily daily' from (today - from) a same)
+replay_same daily daily' (s ∷ ss) today a from timely same =
+    rw (elapsed_same daily daily' from (s.day.0 - from) a same)
+    (ap (cond (ltb (worth (elapsed daily' from (s.day.0 - from) a)) s.cents.0) (Err Overpaid))
+    (replay_same daily daily' ss today (paid_off s.cents.0 (elapsed daily' from (s.day.0 - from) a)) s.day.0 timely.1 (λ t le. same t (omega (arith, timely.0)))))
 
-pub is-over : (over : Bool) (r : Reckoned) → over ≡ true → Overpaid ≡ cond over Overpaid r
-is-over over r e = rw e
+-- a walk with another account
+abbrev pub with_account : Elapsed → Account → Elapsed
+with_account w a = record { account = a; day = w.day; order = w.order; later = w.later }
 
-pub not_over_lem : (over : Bool) (r : Reckoned) → over ≡ false → r ≡ cond over Overpaid r
-not_over_lem over r e = rw e
+pub paid_comes : (w : Elapsed) (m : ℕ) → Come w → m ≤ worth w.account → Come (with_account w (paid_off m w.account))
+paid_comes w m come le = record { bounded = bounded-paid w.day.0 m w.account le come.bounded; begun = come.begun; low = come.low; next = come.next }
 
-module _ (daily : ℕ → ℕ) (ss : List Settlement) (n i from today : ℕ) (le : n ≤ length ss) (a : Account) (x : Reckoned) (over : Bool)
-    (inv : x ≡ cond over Overpaid (replay_from daily a from (drop i (take n ss)) today)) where
-  module _ (before : Account) (e : before ≡ elapsed daily from ((get_or ss i no_settlement).day.0 - from) a) (lt : i < n) where
-    turned : replay_from daily a from (drop i (take n ss)) today
-        ≡ cond (ltb (worth before) (get_or ss i no_settlement).cents.0) Overpaid
-        (replay_from daily (paid_off (get_or ss i no_settlement).cents.0 before) (get_or ss i no_settlement).day.0 (drop (i + 1) (take n ss)) today)
+-- an answer behind two tests
+abbrev pub tested : Bool → Bool → Result Account Unreckoned → Result Account Unreckoned
+tested rising timely r = cond (not rising) (Err OutOfRange) (cond (not timely) (Err OutOfRange) r)
+
+tested_same : (rising timely : Bool) (r r' : Result Account Unreckoned) → (rising ≡ true → timely ≡ true → r ≡ r')
+    → tested rising timely r ≡ tested rising timely r'
+tested_same false timely r r' e = refl
+tested_same true false r r' e = refl
+tested_same true true r r' e = e refl refl
+
+abbrev over_one : Result Account Unreckoned
+over_one = Err Overpaid
+
+abbrev out_of_range : Result Account Unreckoned
+out_of_range = Err OutOfRange
+
+-- what is left of the settlements begins with the one at hand
+at-hand : (ss : List Settlement) (i : ℕ) → i < length ss → drop i ss ≡ get_or ss i no_settlement ∷ drop (i + 1) ss
+at-hand ss i lt = rw (drop-cons ss i no_settlement, add-one i)
+
+-- the orders, or the settlement at hand, are out of order
+pub unordered : (over : Bool) (w : Elapsed) (ss : List Settlement) (today : ℕ) → is_rising w.order.now.first.0 w.later.now ≡ false
+    → left_of over w ss today ≡ Err OutOfRange
+unfolding left_of
+unordered over w ss today e = rw e
+
+pub untimely : (over : Bool) (w : Elapsed) (ss : List Settlement) (i today : ℕ) → i < length ss
+    → is_timely w.day.0 (get_or ss i no_settlement ∷ drop (i + 1) ss) today ≡ false → left_of over w (drop i ss) today ≡ Err OutOfRange
+unfolding left_of
+untimely over w ss i today lt e = rw (at-hand ss i lt, e) (go (is_rising w.order.now.first.0 w.later.now))
+  where
+    go : (b : Bool) → cond (not b) (Err OutOfRange) (Err OutOfRange) ≡ out_of_range
+    go true = refl
+    go false = refl
+
+module _ (over : Bool) {before w : Elapsed} (g : Went before w) (ss : List Settlement) (i today : ℕ) where
+  module _ (lt : i < length ss) (day : w.day.0 ≡ (get_or ss i no_settlement).day.0) (later : before.day.0 < (get_or ss i no_settlement).day.0) where
+    turned : is_rising before.order.now.first.0 before.later.now ≡ true
+        → replay_from (ahead before) before.account before.day.0 (get_or ss i no_settlement ∷ drop (i + 1) ss) today
+        ≡ cond (ltb (worth w.account) (get_or ss i no_settlement).cents.0) (Err Overpaid)
+        (replay_from (ahead before) (paid_off (get_or ss i no_settlement).cents.0 w.account) (get_or ss i no_settlement).day.0 (drop (i + 1) ss) today)
     unfolding replay_from
-    turned = rw (remains ss n i le no_settlement lt, e)
+    turned r = rw (rw day at (g.is-elapsed r))
 
-    pub replay-over : worth before < (get_or ss i no_settlement).cents.0 → x ≡ Overpaid
-    replay-over h = over-kept over x _ inv (turned ∙ rw (lt-ltb (worth before) (get_or ss i no_settlement).cents.0 h))
+    over_stays : (b : Bool) → cond b over_one over_one ≡ over_one
+    over_stays true = refl
+    over_stays false = refl
 
-    pub replay_turn : (next : Account) → (get_or ss i no_settlement).cents.0 ≤ worth before → next ≡ paid_off (get_or ss i no_settlement).cents.0 before
-        → x ≡ cond over Overpaid (replay_from daily next (get_or ss i no_settlement).day.0 (drop (i + 1) (take n ss)) today)
-    replay_turn next within f =
-        inv
-        ∙ ap (λ (r : Reckoned). cond over Overpaid r)
-        (turned ∙ rw (le-ltb (worth before) (get_or ss i no_settlement).cents.0 within, f))
+    -- a settlement that is over
+    pub turn_over : worth w.account < (get_or ss i no_settlement).cents.0 → left_of over before (drop i ss) today ≡ left_of true w (drop (i + 1) ss) today
+    unfolding left_of is_timely
+    turn_over h =
+        rw (at-hand ss i lt, ← g.left, day, lt-ltb before.day.0 (get_or ss i no_settlement).day.0 later)
+        (tested_same (is_rising before.order.now.first.0 before.later.now) (is_timely (get_or ss i no_settlement).day.0 (drop (i + 1) ss) today) _ _
+        (λ r t. rw (turned r, lt-ltb (worth w.account) (get_or ss i no_settlement).cents.0 h) (over_stays over)))
 
-  ended : (last : Account) → last ≡ elapsed daily from (today - from) a → n ≤ i → i ≤ n
-      → replay_from daily a from (drop i (take n ss)) today ≡ Standing last
-  unfolding replay_from
-  ended last e ge most = rw (none-remains ss n i le ge most, e)
+    -- one that is not
+    pub turn_paid : (get_or ss i no_settlement).cents.0 ≤ worth w.account
+        → left_of over before (drop i ss) today ≡ left_of over (with_account w (paid_off (get_or ss i no_settlement).cents.0 w.account)) (drop (i + 1) ss) today
+    unfolding left_of is_timely
+    turn_paid h =
+        rw (at-hand ss i lt, ← g.left, day, lt-ltb before.day.0 (get_or ss i no_settlement).day.0 later)
+        (tested_same (is_rising before.order.now.first.0 before.later.now) (is_timely (get_or ss i no_settlement).day.0 (drop (i + 1) ss) today) _ _
+        (λ r t. rw (turned r, le-ltb (worth w.account) (get_or ss i no_settlement).cents.0 h)
+        (ap (cond over (Err Overpaid))
+        (replay_same (ahead before) (ahead w) (drop (i + 1) ss) today (paid_off (get_or ss i no_settlement).cents.0 w.account) (get_or ss i no_settlement).day.0
+        (timely_says (get_or ss i no_settlement).day.0 (drop (i + 1) ss) today t) (λ t le. g.same-rates r t (omega arith))))))
 
-  pub replay-end : (last : Account) → last ≡ elapsed daily from (today - from) a → n ≤ i → i ≤ n → x ≡ cond over Overpaid (Standing last)
-  replay-end last e ge most = inv ∙ ap (λ (r : Reckoned). cond over Overpaid r) (ended last e ge most)
+  -- behind the last settlement
+  pub ended : length ss ≤ i → w.day.0 ≡ today → left_of over before (drop i ss) today
+      ≡ cond (not (is_rising w.order.now.first.0 w.later.now)) (Err OutOfRange) (cond over (Err Overpaid) (Ok w.account))
+  unfolding left_of is_timely replay_from
+  ended le day =
+      let most : before.day.0 ≤ today = omega (arith, g.since) in
+      rw (drop_of_length-le ss le, ← g.left, le-leb before.day.0 today most)
+      (tested_same (is_rising before.order.now.first.0 before.later.now) true _ _ (λ r t. rw (rw day at (g.is-elapsed r))))
+
+-- what is left at the start is all
+pub left_all : (cents today : ℕ) (w : Elapsed) (ss : List Settlement) (rates : List RateOrder) → rates ≡ w.order.now ∷ w.later.now
+    → w.account ≡ opening cents → w.day.0 ≡ 0 → is_first w.order.now ≡ true
+    → left_of false w ss today ≡ tested (is_schedule rates) (is_timely 0 ss today) (standing cents (stored_on rates) ss today)
+unfolding left_of is_schedule in_force
+left_all cents today w ss rates e account day first =
+    rw (e, account, day, first)
+    (tested_same (is_rising w.order.now.first.0 w.later.now) (is_timely 0 ss today) _ _
+    (λ r t.
+    let timely = timely_says 0 ss today t in
+    replay_same (ahead w) (stored_on (w.order.now ∷ w.later.now)) ss today (opening cents) 0 timely
+    (λ t le. rw (le-leb w.order.now.first.0 t (omega (arith, begun))))
+    ∙ replay-whole cents (stored_on (w.order.now ∷ w.later.now)) ss today timely))
+  where
+    begun : w.order.now.first.0 ≡ 0
+    begun = eqb-true _ _ (both_true (eqb w.order.now.first.0 0) _ first).0

@@ -1,109 +1,120 @@
 -- A walk that tests each order as it comes to it: its beginning, one order on, and its end.
 use Prim.Native.Nat.{ℕ, ◌+◌, ◌-◌, ◌≤◌, ◌<◌}
 use native.Mathlib.Omega.{arith}
-use mathlib.Core.Path.{◌≡◌, sym, subst, ◌∙◌}
+use mathlib.Core.Path.{◌≡◌, refl, sym, subst, ◌∙◌}
 use mathlib.Core.Bool.{true, false}
-use mathlib.Core.List.{List}
-use borrow.Author.Tests.{ltb-true, leb-true}
-use lib.Dec.{ltb}
-use lib.ListN.{length, take, get_or}
-use Rattle.general_laws.proofs.Choice.{both_true, by-test, true_not_false}
-use Rattle.rates.specs.Rate.{greatest_daily}
-use Rattle.account.specs.declared.Account.{Account}
+use mathlib.Core.List.{List, [], ◌∷◌}
+use borrow.Author.Tests.{ltb-true, eqb-true, leb-true, le-leb}
+use lib.Dec.{ltb, eqb}
+use Rattle.general_laws.proofs.Choice.{both_true}
 use Rattle.account.specs.declared.RateOrder.{RateOrder}
+use Rattle.account.specs.declared.walking.Elapsed.{Elapsed}
 use Rattle.account.specs.Accrual.{accrued_days}
-use Rattle.account.specs.Invariant.{Fits, Bounded}
-use Rattle.account.specs.Opening.{no_order}
-use Rattle.account.specs.Ranges.{is_next, is_schedule}
-use Rattle.account.specs.Walk.{Come, Gone}
-use Rattle.account.proofs.Bounds.{bounded-days, fits}
-use Rattle.account.proofs.RangeTests.{schedule_says, next_wrong, next-right}
-use Rattle.account.proofs.Segments.{Holding, elapsed-none, segment}
+use Rattle.account.specs.Invariant.{Bounded}
+use Rattle.account.specs.Opening.{opening}
+use Rattle.account.specs.Ranges.{is_first, is_next, is_rising}
+use Rattle.account.specs.Schedule.{in_force}
+use Rattle.account.specs.Walk.{elapsed, ahead, Until, Next, Come, Went}
+use Rattle.account.proofs.Bounds.{bounded-opening, bounded-days}
+use Rattle.account.proofs.RangeTests.{rising_says}
+use Rattle.account.proofs.Segments.{elapsed-add, elapsed_constant, none_until}
 
-bounded_to : (day end d : ℕ) (a : Account) → d ≤ greatest_daily → day ≤ end → Bounded day a → Bounded end (accrued_days (end - day) d a)
-bounded_to day end d a low le h =
-    let at : day + (end - day) ≡ end = omega arith in
-    subst (λ (n : ℕ). Bounded n (accrued_days (end - day) d a)) at (bounded-days day (end - day) d a low h)
+next-from-start : (first : ℕ) (os : List RateOrder) → Next first 0 os
+next-from-start first [] = tt
+next-from-start first (o ∷ os) = λ e. omega arith
 
-module _ (n : ℕ) (rs : List RateOrder) (room : n ≤ length rs) (at day : ℕ) (come : Come n rs at day) where
-  -- the next order is not right, so the orders are no schedule
-  pub no_next : at + 1 < n → is_next (get_or rs at no_order).first.0 (get_or rs (at + 1) no_order) ≡ false → is_schedule (take n rs) ≡ false
-  no_next lt e = come.left ∙ next_wrong rs n room _ (at + 1) lt e
+-- the walk at the opening
+pub begins : (cents : ℕ) (w : Elapsed) → cents ≤ 1000000000000 → w.account ≡ opening cents → w.day.0 ≡ 0 → is_first w.order.now ≡ true → Come w
+begins cents w small account day first =
+    let h = both_true (eqb w.order.now.first.0 0) _ first in
+    record {
+      bounded = rw (account, day) (bounded-opening cents small);
+      begun = omega (arith, eqb-true w.order.now.first.0 0 h.0);
+      low = leb-true _ _ h.1;
+      next = rw day (next-from-start w.order.now.first.0 w.later.now);
+    }
 
-  module _ (lt : at + 1 < n) (e : is_next (get_or rs at no_order).first.0 (get_or rs (at + 1) no_order) ≡ true) where
-    -- the next order is right, and the walk comes to it on its first day
-    come-next : Come n rs (at + 1) (get_or rs (at + 1) no_order).first.0
-    come-next =
-        record {
-          within = lt;
-          begun = omega arith;
-          low = leb-true _ _ (both_true (ltb (get_or rs at no_order).first.0 (get_or rs (at + 1) no_order).first.0) _ e).1;
-          next = λ l f. later f;
-          left = come.left ∙ next-right rs n room _ (at + 1) lt e;
-        }
-      where
-        later : is_next (get_or rs (at + 1) no_order).first.0 (get_or rs (at + 1 + 1) no_order) ≡ true
-            → (get_or rs (at + 1) no_order).first.0 ≤ (get_or rs (at + 1 + 1) no_order).first.0
-        later f =
-            let lt = ltb-true (get_or rs (at + 1) no_order).first.0 (get_or rs (at + 1 + 1) no_order).first.0 (both_true (ltb (get_or rs (at + 1) no_order).first.0 (get_or rs (at + 1 + 1) no_order).first.0) _ f).0 in
-            omega arith
+-- where it begins
+pub walk_begins : (w : Elapsed) → Come w → Went w w
+unfolding elapsed
+walk_begins w come =
+    let e : w.day.0 - w.day.0 ≡ 0 = omega arith in
+    record { come = come; since = omega arith; left = refl; same-rates = λ r t le. refl; is-elapsed = λ r. rw e }
 
-  -- within a schedule the next order is right
-  holding : is_schedule (take n rs) ≡ true → Holding n rs at day
-  holding e = (
-    come.within,
-    come.begun,
-    λ lt. by-test (is_next (get_or rs at no_order).first.0 (get_or rs (at + 1) no_order)) (come.next lt)
-        (λ f. true_not_false (is_schedule (take n rs)) e (no_next lt f)),
-  )
+until-next : (first day : ℕ) (os : List RateOrder) → Until day os → Next first day os
+until-next first day [] until = tt
+until-next first day (o ∷ os) until = λ _. until
 
--- on the way from an account on a day to an end: the walk has come to a day not after it
-abbrev pub Walking : (n : ℕ) (orders : List RateOrder) (before : Account) (from end : ℕ) (now : Account) (day at : ℕ) → Type 0
-Walking n orders before from end now day at = (from ≤ day) × (day ≤ end) × Gone n orders before from day now at
+next-of : (first : ℕ) (os : List RateOrder) → Next first first os
+next-of first [] = tt
+next-of first (o ∷ os) = λ e. let h = ltb-true first o.first.0 (both_true (ltb first o.first.0) _ e).0 in omega arith
 
-pub walk_begins : {n : ℕ} {rs : List RateOrder} {a : Account} {from end at : ℕ} → from ≤ end → Come n rs at from → Bounded from a → Walking n rs a from end a from at
-walk_begins le come h = (omega arith, le, record { come = come; bounded = h; is-elapsed = λ _. elapsed-none _ _ _ })
+module _ {before w : Elapsed} (g : Went before w) where
+  -- the days up to one that the next order doesn't precede, at the daily rate of the order at hand
+  stretch : (to : ℕ) → w.day.0 ≤ to → Until to w.later.now → is_rising before.order.now.first.0 before.later.now ≡ true
+      → accrued_days (to - w.day.0) w.order.now.daily w.account ≡ elapsed (ahead before) before.day.0 (to - before.day.0) before.account
+  stretch to le until r =
+      let since = g.since in
+      let sum : to - before.day.0 ≡ (w.day.0 - before.day.0) + (to - w.day.0) = omega arith in
+      let here : before.day.0 + (w.day.0 - before.day.0) ≡ w.day.0 = omega arith in
+      sym (elapsed_constant (ahead before) w.order.now.daily w.day.0 (to - w.day.0) w.account same)
+      ∙ rw (g.is-elapsed r, sum, elapsed-add (ahead before) before.day.0 (w.day.0 - before.day.0) (to - w.day.0) before.account, here)
+    where
+      same : (t : ℕ) → w.day.0 ≤ t → t < w.day.0 + (to - w.day.0) → ahead before t ≡ w.order.now.daily
+      same t low high =
+          g.same-rates r t low
+          ∙ none_until (λ (o : RateOrder). o.daily) w.order.now.daily w.later.now w.order.now.first.0 to t (rising_says _ _ (sym g.left ∙ r)) until (omega arith)
 
-pub walk-fits : {n : ℕ} {rs : List RateOrder} {before now : Account} {from end day at : ℕ} → Walking n rs before from end now day at → end ≤ 6000 → Fits now
-walk-fits w le = fits _ _ (omega (arith, w.1)) w.2.bounded
+  bounded_to : (to : ℕ) → w.day.0 ≤ to → Bounded to (accrued_days (to - w.day.0) w.order.now.daily w.account)
+  bounded_to to le =
+      let at : w.day.0 + (to - w.day.0) ≡ to = omega arith in
+      subst (λ (n : ℕ). Bounded n (accrued_days (to - w.day.0) w.order.now.daily w.account)) at
+      (bounded-days w.day.0 (to - w.day.0) w.order.now.daily w.account g.come.low g.come.bounded)
 
-module _ {n : ℕ} {rs : List RateOrder} (room : n ≤ length rs) {before now : Account} {from end day at : ℕ} (w : Walking n rs before from end now day at) where
-  -- the days up to one that the next order doesn't precede
-  stretch : (to : ℕ) (after : Account) → day ≤ to → (at + 1 < n → to ≤ (get_or rs (at + 1) no_order).first.0)
-      → after ≡ accrued_days (to - day) (get_or rs at no_order).daily now → Gone n rs before from to after at
-  stretch to after le until e =
-      let come = w.2.come in
+  -- up to the end
+  pub walk_ends : (after : Elapsed) → w.day.0 ≤ after.day.0 → Until after.day.0 w.later.now → after.order.now ≡ w.order.now → after.later.now ≡ w.later.now
+      → after.account ≡ accrued_days (after.day.0 - w.day.0) w.order.now.daily w.account → Went before after
+  walk_ends after le until same rest e =
       record {
         come =
             record {
-              within = come.within;
-              begun = omega (arith, come.begun);
-              low = come.low;
-              next = λ l _. until l;
-              left = come.left;
+              bounded = rw e (bounded_to after.day.0 le);
+              begun = rw same (omega (arith, g.come.begun));
+              low = rw same g.come.low;
+              next = rw (same, rest) (until-next _ _ w.later.now until);
             };
-        bounded = subst (Bounded to) (sym e) (bounded_to day to _ now come.low le w.2.bounded);
-        is-elapsed = λ s. e ∙ segment n rs at from day to before now (schedule_says _ s).1 room (holding n rs room at day come s) until w.0 le (w.2.is-elapsed s);
+        since = omega (arith, g.since);
+        left = rw (same, rest) g.left;
+        same-rates = λ r t low. rw (same, rest) (g.same-rates r t (omega arith));
+        is-elapsed = λ r. e ∙ stretch after.day.0 le until r;
       }
 
-  -- up to the end
-  pub walk_ends : (after : Account) → (at + 1 < n → end ≤ (get_or rs (at + 1) no_order).first.0)
-      → after ≡ accrued_days (end - day) (get_or rs at no_order).daily now → Gone n rs before from end after at
-  walk_ends after until e = stretch end after w.1 until e
+  module _ (o : RateOrder) (os : List RateOrder) (rest : w.later.now ≡ o ∷ os) where
+    -- the next order is not right
+    pub no_next : is_next w.order.now.first.0 o ≡ false → is_rising before.order.now.first.0 before.later.now ≡ false
+    unfolding is_rising
+    no_next wrong = g.left ∙ rw (rest, wrong)
 
-  -- up to the next order, which is right and begins before the end
-  pub walk-next : (after : Account) → at + 1 < n → (get_or rs (at + 1) no_order).first.0 < end
-      → is_next (get_or rs at no_order).first.0 (get_or rs (at + 1) no_order) ≡ true
-      → after ≡ accrued_days ((get_or rs (at + 1) no_order).first.0 - day) (get_or rs at no_order).daily now
-      → Walking n rs before from end after (get_or rs (at + 1) no_order).first.0 (at + 1)
-  walk-next after lt early right e =
-      let later = w.2.come.next lt right in
-      let more = stretch _ after later (λ _. omega arith) e in (
-        omega (arith, w.0),
-        omega arith,
+    -- it is right, so it begins no earlier than the day at hand
+    pub no_earlier : is_next w.order.now.first.0 o ≡ true → w.day.0 ≤ o.first.0
+    no_earlier right = (rw rest at g.come.next) right
+
+    -- and the walk comes to it on its first day
+    pub walk-next : is_next w.order.now.first.0 o ≡ true → (after : Elapsed) → after.day ≡ o.first → after.order.now ≡ o → after.later.now ≡ os
+        → after.account ≡ accrued_days (o.first.0 - w.day.0) w.order.now.daily w.account → Went before after
+    unfolding is_rising in_force
+    walk-next right after day order later e =
+        let le = no_earlier right in
         record {
-          come = come-next n rs room at day w.2.come lt right;
-          bounded = more.bounded;
-          is-elapsed = more.is-elapsed;
-        },
-      )
+          come =
+              record {
+                bounded = rw (e, day) (bounded_to o.first.0 le);
+                begun = rw (order, day) (omega arith);
+                low = rw order (leb-true _ _ (both_true (ltb w.order.now.first.0 o.first.0) _ right).1);
+                next = rw (order, later, day) (next-of o.first.0 os);
+              };
+          since = rw day (omega (arith, g.since));
+          left = rw (order, later) (g.left ∙ rw (rest, right));
+          same-rates = λ r t low. g.same-rates r t (omega (arith, rw day at low)) ∙ rw (rest, order, later, le-leb o.first.0 t (rw day at low));
+          is-elapsed = λ r. rw day (e ∙ stretch o.first.0 le (rw rest (omega arith)) r);
+        }

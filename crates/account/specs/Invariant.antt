@@ -5,7 +5,7 @@ use Rattle.account.specs.declared.Account.{Account}
 use Rattle.account.specs.declared.RateOrder.{RateOrder}
 use Rattle.account.specs.declared.Settlement.{Settlement}
 
--- figures that the arithmetic of one step fits
+-- figures that the arithmetic of one step fits; no invariant of `Account`, since every entry takes any numbers
 pub record Fits (a : Account) : Type 0 where
   pub principal : a.outstanding.0 ≤ 1000000000000
   pub interest : a.due.0 ≤ 1000000000000

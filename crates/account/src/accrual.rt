@@ -3,13 +3,13 @@ ghost use Rattle.std.specs.Prelude.{◌≡◌, ◌≤◌};
 ghost use Rattle.rates.specs.Rate.{greatest_daily};
 ghost use Rattle.account.specs.Accrual.{accrued_days};
 ghost use Rattle.account.specs.Reckoning.{accrued};
-ghost use Rattle.account.specs.Invariant.{Fits, Bounded};
-ghost use Rattle.account.specs.Walk.{Come, Went};
+ghost use Rattle.account.specs.Invariant.{Fits};
 
-use crate::ranges::{is_account, is_next};
-use crate::{Account, Day, RateOrder, Reckoned};
+use crate::ranges::is_account;
+use crate::{Account, Day, Unreckoned};
 
 // So many days at one daily rate, at once: outstanding × d is q × 10^10 + r, so due grows by days × q, and fraction + days × r carries.
+#[tactic(auto, using(crate::proofs::Bounds::product_bound, crate::proofs::Bounds::whole_bound, crate::proofs::Bounds::rest_bound, crate::proofs::ClosedForm::closed_form))]
 pub fn accrue_days(account: Account, daily: u64, days: Day) -> Account
     requires fits { Fits account }
     requires daily_le_greatest_daily { (daily ≤ greatest_daily) × (days.0 ≤ 6000) }
@@ -27,69 +27,12 @@ pub fn accrue_days(account: Account, daily: u64, days: Day) -> Account
 }
 
 // So many days at one daily rate.
-pub fn accrue(account: Account, daily: u64, days: Day) -> Reckoned
+#[tactic(auto, using(crate::proofs::RangeTests::account_fits), unfolding(crate::specs::Reckoning::accrued))]
+pub fn accrue(account: Account, daily: u64, days: Day) -> Result<Account, Unreckoned>
     ensures { result ≡ accrued account daily days.0 }
 {
-    if !is_account(account) {
-        return Reckoned::OutOfRange;
+    if !is_account(account) || Account::DAILY < daily || Account::DAYS < days.0 {
+        return Err(Unreckoned::OutOfRange);
     }
-    if Account::DAILY < daily {
-        return Reckoned::OutOfRange;
-    }
-    if Account::DAYS < days.0 {
-        return Reckoned::OutOfRange;
-    }
-    let next = accrue_days(account, daily, days);
-    Reckoned::Standing(next)
-}
-
-// The account on a day, and the place of the order that holds up to it; or that the orders on the way are no schedule.
-#[derive(Clone, Copy)]
-pub struct Elapsed {
-    pub account: Account,
-    pub at: usize,
-    pub ordered: bool,
-}
-
-// The interest of the days from `from` up to `end`, order by order, each tested as the walk comes to it; the order at `place` holds up to `from`.
-pub fn elapse(
-    account: Account,
-    rates: [RateOrder; Account::RATES],
-    rated: usize,
-    place: usize,
-    from: Day,
-    end: Day,
-) -> Elapsed
-    requires bounded { Bounded from.0 account }
-    requires from_le_end { (from.0 ≤ end.0) × (end.0 ≤ 6000) × (rated ≤ 16) }
-    requires come { Come rated rates place from.0 }
-    ensures { Went rated rates account from.0 end.0 result }
-{
-    let mut next = account;
-    let mut at = place;
-    let mut day = from;
-    while at + 1 < rated && rates[at + 1].first.0 < end.0 {
-        let order = rates[at];
-        let later = rates[at + 1];
-        if !is_next(order, later) {
-            return Elapsed {
-                account: next,
-                at: at,
-                ordered: false,
-            };
-        }
-        let change = later.first;
-        let days = change.0 - day.0;
-        let now = next;
-        next = accrue_days(now, order.daily, Day(days));
-        day = change;
-        at += 1;
-    }
-    let order = rates[at];
-    let days = end.0 - day.0;
-    Elapsed {
-        account: accrue_days(next, order.daily, Day(days)),
-        at: at,
-        ordered: true,
-    }
+    Ok(accrue_days(account, daily, days))
 }

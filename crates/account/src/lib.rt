@@ -2,21 +2,25 @@
 // rates and settlements lead to the account of a day. Every entry takes any numbers, and answers `OutOfRange` where they are no account.
 #![tactic(auto)]
 
+ghost use Rattle.std.specs.Prelude.{◌≡◌};
+ghost use Rattle.account.specs.Opening.{opening};
+
 mod accrual;
 mod paying;
 mod ranges;
 mod replaying;
+mod walking;
 
 pub use crate::accrual::accrue;
 pub use crate::paying::{interest_of, pay};
 pub use crate::replaying::replay;
 
 // Money, in whole cents.
-#[derive(Clone, Copy)]
+#[derive(Clone, Copy, PartialEq, Eq, PartialOrd, Ord)]
 pub struct Cents(pub u64);
 
 // A day of the right, counted from its first day, day 0; or a count of days.
-#[derive(Clone, Copy)]
+#[derive(Clone, Copy, PartialEq, Eq, PartialOrd, Ord)]
 pub struct Day(pub u32);
 
 #[derive(Clone, Copy)]
@@ -58,12 +62,25 @@ impl Account {
     pub const DAILY: u64 = rates::GREATEST_DAILY;
 
     pub const DAYS: u32 = 6000;
+
+    // The account of a right as it opens: everything is outstanding.
+    #[tactic(auto, unfolding(crate::specs::Opening::opening))]
+    pub fn opening(cents: Cents) -> Account
+        ensures { result ≡ opening cents.0 }
+    {
+        Account {
+            outstanding: cents,
+            due: Cents(0),
+            fraction: 0,
+            principal_paid: Cents(0),
+            interest_paid: Cents(0),
+        }
+    }
 }
 
-// An account; or a settlement is over due plus outstanding; or the numbers given are no account, rate or day of one.
-#[derive(Clone, Copy)]
-pub enum Reckoned {
-    Standing(Account),
+// Why there is no account: a settlement is over due plus outstanding; or the numbers given are no account, rate or day of one.
+#[derive(Clone, Copy, Debug, PartialEq, Eq)]
+pub enum Unreckoned {
     Overpaid,
     OutOfRange,
 }

@@ -5,16 +5,17 @@ ghost use Rattle.account.specs.Invariant.{Fits};
 ghost use Rattle.account.specs.Reckoning.{paid};
 
 use crate::ranges::is_account;
-use crate::{Account, Cents, Reckoned};
+use crate::{Account, Cents, Unreckoned};
 
 // What a settlement takes as interest, of so much that is due.
 pub fn interest_of(cents: Cents, due: Cents) -> Cents
     ensures { result.0 ≡ min cents.0 due.0 }
 {
-    if cents.0 < due.0 { cents } else { due }
+    cents.min(due)
 }
 
 // A settlement that is not over due plus outstanding.
+#[tactic(auto, unfolding(crate::specs::Accrual::paid_off))]
 pub fn pay_off(account: Account, cents: Cents) -> Account
     requires fits { Fits account }
     requires cents_bound { cents.0 ≤ worth account }
@@ -36,15 +37,15 @@ pub fn pay_off(account: Account, cents: Cents) -> Account
     }
 }
 
-pub fn pay(account: Account, cents: Cents) -> Reckoned
+#[tactic(auto, using(crate::proofs::RangeTests::account_fits), unfolding(crate::specs::Reckoning::paid))]
+pub fn pay(account: Account, cents: Cents) -> Result<Account, Unreckoned>
     ensures { result ≡ paid account cents.0 }
 {
     if !is_account(account) {
-        return Reckoned::OutOfRange;
+        return Err(Unreckoned::OutOfRange);
     }
     if account.due.0 + account.outstanding.0 < cents.0 {
-        return Reckoned::Overpaid;
+        return Err(Unreckoned::Overpaid);
     }
-    let next = pay_off(account, cents);
-    Reckoned::Standing(next)
+    Ok(pay_off(account, cents))
 }

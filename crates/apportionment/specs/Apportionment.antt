@@ -1,10 +1,9 @@
 -- An amount divided by weights: the largest remainder method. Document 01, Settle: "Each receives M × w divided by W, rounded down; the
 -- cents left over go one each to the greatest remainders, earlier position first among equals." The positions are those of the list ws.
-use Rattle.std.specs.Prelude.{ℕ, ◌+◌, ◌-◌, ◌*◌, ◌/◌, ◌%◌, Bool, cond, ◌&&◌, ◌||◌, List, ltb, eqb, length, get_or, take, replicate}
+use Rattle.std.specs.Prelude.{ℕ, ◌+◌, ◌-◌, ◌*◌, ◌/◌, ◌%◌, Bool, cond, ◌&&◌, ◌||◌, List, Result, Ok, Err, ltb, eqb, length, get_or}
 use Rattle.general_laws.specs.Sums.{total, sum_below, count_below, list_below}
-use Rattle.apportionment.specs.declared.Apportioned.{Apportioned}
-use Rattle.apportionment.specs.declared.Division.{Division}
-use Rattle.apportionment.specs.declared.Division.TheVariants.{Divided, Count, Amount, Weight}
+use Rattle.apportionment.specs.declared.Undivided.{Undivided}
+use Rattle.apportionment.specs.declared.Undivided.TheVariants.{Count, Amount, Weight}
 
 -- w: the weight of position k
 abbrev pub weight : List ℕ → ℕ → ℕ
@@ -49,14 +48,10 @@ part m ws k = quotient m ws k + extra m ws k
 unfoldable pub padded : ℕ → (ℕ → ℕ) → List ℕ
 padded n f = list_below 64 (λ k. cond (ltb k n) (f k) 0)
 
--- a refusal gives nothing to any position
-abbrev pub refused_by : Division → Apportioned
-refused_by d = record { division = d; parts = replicate 64 0 }
-
--- the answer for the first n of 64 weights: 1 to 64 positions, an amount of at most 10^11, a total weight of 1 to 92,000,000
-unfoldable pub apportioned : ℕ → List ℕ → ℕ → Apportioned
-apportioned m ws n =
-    cond (eqb n 0 || ltb 64 n) (refused_by Count)
-    (cond (ltb 100000000000 m) (refused_by Amount)
-    (cond (eqb (total_weight (take n ws)) 0 || ltb 92000000 (total_weight (take n ws))) (refused_by Weight)
-    (record { division = Divided; parts = padded n (part m (take n ws)) })))
+-- the parts by the weights ws: 1 to 64 positions, an amount of at most 10^11, a total weight of 1 to 92,000,000
+unfoldable pub apportioned : ℕ → List ℕ → Result (List ℕ) Undivided
+apportioned m ws =
+    cond (eqb (length ws) 0 || ltb 64 (length ws)) (Err Count)
+    (cond (ltb 100000000000 m) (Err Amount)
+    (cond (eqb (total_weight ws) 0 || ltb 92000000 (total_weight ws)) (Err Weight)
+    (Ok (padded (length ws) (part m ws)))))

@@ -6,7 +6,7 @@ mod leftovers;
 mod quotients;
 
 ghost use Rattle.std.specs.Prelude.{◌≡◌};
-ghost use Rattle.apportionment.specs.Apportionment.{apportioned, refused_by};
+ghost use Rattle.apportionment.specs.Apportionment.{apportioned};
 ghost use Rattle.apportionment.specs.Laws.{Laws};
 ghost use Rattle.apportionment.specs.Examples.{Examples};
 
@@ -21,56 +21,30 @@ pub const AMOUNT: u64 = 100000000000;
 // The greatest total of weights.
 pub const WEIGHT: u64 = 92000000;
 
-// Whether an amount is divided, or what is wrong: the count of positions, the amount or the total of the weights.
-#[derive(Clone, Copy)]
-pub enum Division {
-    Divided,
+// Why an amount is not divided: the count of positions, the amount or the total of the weights.
+#[derive(Clone, Copy, Debug, PartialEq, Eq)]
+pub enum Undivided {
     Count,
     Amount,
     Weight,
 }
 
-// What each position receives, and 0 behind the positions in use. A refused division gives nothing to any.
-#[derive(Clone, Copy)]
-pub struct Apportioned {
-    pub division: Division,
-    pub parts: [u64; POSITIONS],
-}
-
-fn refused(division: Division) -> Apportioned
-    ensures { result ≡ refused_by division }
+// What each position receives, and 0 behind the last of them.
+#[tactic(auto, unfolding(crate::specs::Apportionment::apportioned))]
+pub fn apportion(amount: u64, weights: &[u64]) -> Result<[u64; POSITIONS], Undivided>
+    ensures { result ≡ apportioned amount weights.now }
 {
-    Apportioned {
-        division: division,
-        parts: [0u64; POSITIONS],
-    }
-}
-
-// The amount divided by the first `count` weights.
-pub fn apportion(amount: u64, weights: [u64; POSITIONS], count: usize) -> Apportioned
-    ensures { result ≡ apportioned amount weights count }
-{
-    if count == 0 {
-        return refused(Division::Count);
-    }
-    if POSITIONS < count {
-        return refused(Division::Count);
+    if weights.is_empty() || POSITIONS < weights.len() {
+        return Err(Undivided::Count);
     }
     if AMOUNT < amount {
-        return refused(Division::Amount);
+        return Err(Undivided::Amount);
     }
-    let total = total_weight(&weights, count);
-    if total == 0 {
-        return refused(Division::Weight);
+    let total = total_weight(weights);
+    if total == 0 || WEIGHT < total {
+        return Err(Undivided::Weight);
     }
-    if WEIGHT < total {
-        return refused(Division::Weight);
-    }
-    let parts = divided(amount, &weights, count, total);
-    Apportioned {
-        division: Division::Divided,
-        parts: parts,
-    }
+    Ok(divided(amount, weights, total))
 }
 
 // What callers may rely on of a division, and the worked examples of document 01 that speak of a split alone. It does nothing.

@@ -1,74 +1,48 @@
 // Prints the division of each case of the input: ANSWER and the 64 parts.
 #![tactic(auto)]
 
-use apportionment::{Division, POSITIONS};
+use apportionment::{POSITIONS, Undivided, apportion};
+use cases::Cases;
 use std::io;
 
 // The most bytes of the input.
 const INPUT: usize = 65536;
 
-fn put_division(rt: &impl Print, division: Division) {
-    match division {
-        Division::Divided => cases::put(rt, 0, b' '),
-        Division::Count => cases::put(rt, 1, b' '),
-        Division::Amount => cases::put(rt, 2, b' '),
-        Division::Weight => cases::put(rt, 3, b' '),
+// The most weights that a case passes: more than are divided among.
+const WEIGHTS: usize = 70;
+
+// The numbers of a division's answers are this program's own, so `Undivided` has none.
+fn number(answer: Result<[u64; POSITIONS], Undivided>) -> u8 {
+    match answer {
+        Ok(_) => 0,
+        Err(Undivided::Count) => 1,
+        Err(Undivided::Amount) => 2,
+        Err(Undivided::Weight) => 3,
     }
 }
 
-// The parts, and the end of the line.
-fn put_parts(rt: &impl Print, parts: &[u64; POSITIONS]) {
-    let mut i: usize = 0;
-    while i < POSITIONS - 1 {
-        cases::put(rt, parts[i], b' ');
-        i += 1;
+// The line of the next case: its amount, how many weights are passed, and how many are stated, which come next. The others are 0.
+fn put_case(rt: &impl Print, cases: &mut Cases) {
+    let amount = cases.number();
+    let passed = WEIGHTS.min(cases.number() as usize);
+    let stated = POSITIONS.min(cases.number() as usize);
+    let mut weights = [0u64; WEIGHTS];
+    for weight in &mut weights[..stated] {
+        *weight = cases.number();
     }
-    cases::put(rt, parts[POSITIONS - 1], b'\n');
-}
-
-// Reads so many weights, at most 64. It answers the position behind them.
-fn read_weights(text: &[u8], at: usize, count: u64, weights: &mut [u64; POSITIONS]) -> usize {
-    let mut next = at;
-    let mut i: usize = 0;
-    while i < POSITIONS {
-        if count <= i as u64 {
-            return next;
-        }
-        let weight = cases::number_at(text, next);
-        weights[i] = weight.value;
-        next = weight.next;
-        i += 1;
+    let answer = apportion(amount, &weights[..passed]);
+    let _ = print!(rt; "{}", number(answer));
+    for part in answer.unwrap_or([0; POSITIONS]) {
+        let _ = print!(rt; " {part}");
     }
-    next
-}
-
-// The line of the case at a position. It answers the position behind the case.
-fn put_case(rt: &impl Print, text: &[u8], at: usize) -> usize {
-    let amount = cases::number_at(text, at);
-    let count = cases::number_at(text, amount.next);
-    let stated = cases::number_at(text, count.next);
-    let mut weights = [0u64; POSITIONS];
-    let next = read_weights(text, stated.next, stated.value, &mut weights);
-    let split = apportionment::apportion(amount.value, weights, count.value as usize);
-    put_division(rt, split.division);
-    put_parts(rt, &split.parts);
-    next
-}
-
-// The lines of the cases: their count comes first.
-fn put_cases(rt: &impl Print, text: &[u8]) {
-    let count = cases::number_at(text, 0);
-    let mut at = count.next;
-    let mut left = count.value;
-    while 0 < left {
-        at = put_case(rt, text, at);
-        left -= 1;
-    }
+    let _ = println!(rt; "");
 }
 
 fn main(rt: HostRuntime) -> io::Result<()> {
     let mut buffer = [0u8; INPUT];
-    let n = cases::read_full(&mut rt.stdin(), &mut buffer)?;
-    put_cases(&rt, &buffer[..n]);
+    let mut cases = Cases::read(&mut rt.stdin(), &mut buffer)?;
+    for _ in 0..cases.number() {
+        put_case(&rt, &mut cases);
+    }
     Ok(())
 }

@@ -1,68 +1,55 @@
--- The first positions while they gain the unit-days of so many days: sums of what is left, and positions that have gained theirs.
-use Prim.Native.Nat.{ℕ, ◌+◌, ◌≤◌, ◌<◌}
-use native.Mathlib.Omega.{arith}
-use mathlib.Core.Path.{◌≡◌, refl, sym, ap, ◌∙◌}
-use mathlib.Core.List.{List, ◌++◌, map}
-use lib.ListN.{length, take, drop, get_or, set, length-map, drop_of_length-le, get_or-map}
-use lib.Seq.{length-take-le, get_or-take}
+-- Positions that gain their unit-days one by one, and the sum of those they have.
+use Rattle.std.proofs.Common.{arith, ℕ, ◌≡◌, ◌+◌, ◌*◌, ◌≤◌, ◌<◌, List, map, refl, sym, ap, ◌∙◌, length, get_or, set, append-nil}
+use native.Mathlib.Nat.{mul-le-mul_right}
+use lib.ListN.{length-map}
+use Rattle.std.proofs.lemmas.List.{drop_all}
+use Rattle.std.specs.List.{sum_by}
+use Rattle.std.proofs.lemmas.List.Recursion.{is_sum_by}
 use Rattle.general_laws.specs.Sums.{total}
 use Rattle.general_laws.proofs.Fronts.{filled, filled_at, filled_step, filled-all}
-use Rattle.general_laws.proofs.Rests.{total_step}
 use Rattle.general_laws.proofs.Totals.{total_most_of}
 use Rattle.book_model.specs.declared.Position.{Position}
 use Rattle.book_model.specs.Book.{fresh}
-use Rattle.book_model.specs.Positions.{shares, unit_days_column}
 use Rattle.book_model.specs.Closed.{days_held}
+use Rattle.book_model.specs.Positions.{shares, unit_days_column}
 use Rattle.book_model.proofs.Callers.{days_held-at}
 
--- the first n positions after so many days
-abbrev pub later : ℕ → ℕ → List Position → List Position
-later days n ps = map (days_held days) (take n ps)
+pub unit_days_sum : (ps : List Position) → total (unit_days_column ps) ≡ sum_by (λ (p : Position). p.unit_days) ps
+unit_days_sum = is_sum_by (λ (ps : List Position). total (unit_days_column ps)) (λ (p : Position). p.unit_days) refl (λ p ps. refl)
 
--- no share and no unit-days are over their totals
-pub share-most : (qs : List Position) → total (shares qs) ≤ 1000000 → (i : ℕ) → (get_or qs i (fresh 0 0)).share.0 ≤ 1000000
-share-most qs most i = omega (arith, total_most_of (λ (p : Position). p.share.0) qs i (fresh 0 0) refl)
+-- the positions of an array after so many days, up to a place
+abbrev pub held_up_to : ℕ → List Position → ℕ → List Position
+held_up_to days ps i = filled (map (days_held days) ps) i ps
 
-pub unit_days_most : (qs : List Position) → total (unit_days_column qs) ≤ 92000000 → (i : ℕ) → (get_or qs i (fresh 0 0)).unit_days ≤ 92000000
-unit_days_most qs most i = omega (arith, total_most_of (λ (p : Position). p.unit_days) qs i (fresh 0 0) refl)
+within : (u s days : ℕ) → u ≤ 92000000 → s ≤ 1000000 → days ≤ 92 → u + s * days ≤ 184000000
+within u s days most share few = omega (arith, mul-le-mul_right {m = s} {n = 1000000} days share)
 
-module _ (n : ℕ) (ps : List Position) (room : n ≤ length ps) where
-  -- the unit-days of the first n positions, from place i on
-  abbrev pub rest : ℕ → ℕ
-  rest i = total (drop i (unit_days_column (take n ps)))
+module _ (days : ℕ) (ps next : List Position) (i : ℕ) (so_far : next ≡ held_up_to days ps i) where
+  abbrev later : List Position
+  later = map (days_held days) ps
 
-  pub entries : length (unit_days_column (take n ps)) ≡ n
-  entries = length-map (take n ps) (λ (p : Position). p.unit_days) ∙ length-take-le n ps room
+  as_many : length later ≡ length ps
+  as_many = length-map ps (days_held days)
 
-  pub rest_from : (i : ℕ) → i < n → rest i ≡ (get_or ps i (fresh 0 0)).unit_days + rest (i + 1)
-  rest_from i lt =
-      let here : get_or (unit_days_column (take n ps)) i 0 ≡ (get_or ps i (fresh 0 0)).unit_days =
-      get_or-map (λ (p : Position). p.unit_days) (take n ps) i (fresh 0 0)
-      ∙ ap (λ (p : Position). p.unit_days) (get_or-take n ps i (fresh 0 0) lt) in
-      omega (arith, here, total_step (unit_days_column (take n ps)) i (omega (arith, entries)))
-
-  pub no_rest : (i : ℕ) → n ≤ i → rest i ≡ 0
-  no_rest i le = ap total (drop_of_length-le (unit_days_column (take n ps)) {i = i} (omega (arith, entries)))
-
-module _ (days n : ℕ) (ps : List Position) (room : n ≤ length ps) where
-  pub as_many : length (later days n ps) ≡ n
-  as_many = length-map (take n ps) (days_held days) ∙ length-take-le n ps room
-
-  module _ (next : List Position) (i : ℕ) (so_far : next ≡ filled (later days n ps) i ps) where
-    pub here : i < n → get_or next i (fresh 0 0) ≡ get_or (take n ps) i (fresh 0 0)
-    here lt =
+  module _ (lt : i < length ps) where
+    -- the next one is as it was
+    here : get_or next i (fresh 0 0) ≡ get_or ps i (fresh 0 0)
+    here =
         ap (λ (l : List Position). get_or l i (fresh 0 0)) so_far
-        ∙ filled_at (later days n ps) ps i (fresh 0 0) (omega arith) (omega (arith, as_many))
-        ∙ sym (get_or-take n ps i (fresh 0 0) lt)
+        ∙ filled_at later ps i (fresh 0 0) lt (omega (arith, as_many))
 
-    pub gained : i < n → (p : Position) → p ≡ days_held days (get_or next i (fresh 0 0)) → set next i p ≡ filled (later days n ps) (i + 1) ps
-    gained lt p e =
-        ap (λ (l : List Position). set l i p) so_far
-        ∙ filled_step (later days n ps) ps i (fresh 0 0) (omega arith) p (omega (arith, as_many))
-        (e ∙ ap (days_held days) (here lt) ∙ sym (days_held-at days (take n ps) i (fresh 0 0) (omega (arith, length-take-le n ps room))))
+    pub gain_most : total (unit_days_column ps) ≤ 92000000 → total (shares ps) ≤ 1000000 → days ≤ 92
+        → ((get_or next i (fresh 0 0)).share.0 ≤ 1000000) × ((get_or next i (fresh 0 0)).unit_days + (get_or next i (fresh 0 0)).share.0 * days ≤ 184000000)
+    gain_most unit_days_most shares_most days_most =
+        let share = total_most_of (λ (p : Position). p.share.0) ps i (fresh 0 0) refl in
+        let unit_days = total_most_of (λ (p : Position). p.unit_days) ps i (fresh 0 0) refl in
+        rw here (omega arith, within _ _ _ (omega arith) (omega arith) days_most)
 
-    pub all-gained : i ≡ n → next ≡ later days n ps ++ drop n ps
-    all-gained e =
-        so_far
-        ∙ filled-all (later days n ps) ps i (e ∙ sym as_many)
-        ∙ ap (λ (k : ℕ). later days n ps ++ drop k ps) as_many
+    pub gained : set next i (days_held days (get_or next i (fresh 0 0))) ≡ held_up_to days ps (i + 1)
+    gained =
+        ap (λ (l : List Position). set l i (days_held days (get_or next i (fresh 0 0)))) so_far
+        ∙ filled_step later ps i (fresh 0 0) lt (days_held days (get_or next i (fresh 0 0))) (omega (arith, as_many))
+        (ap (days_held days) here ∙ sym (days_held-at days ps i (fresh 0 0) lt))
+
+  pub all-gained : i ≡ length ps → next ≡ later
+  all-gained e = so_far ∙ filled-all later ps i (e ∙ sym as_many) ∙ rw (drop_all (length later) ps (omega (arith, as_many)), append-nil)

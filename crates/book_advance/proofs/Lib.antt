@@ -1,4 +1,3 @@
--- What the proof of `advance` cites: figures that fit its steps, and what the steps give together.
-mod Figures
-mod Outcomes
-mod Held
+-- What the proof of an advance cites.
+pub mod Held
+pub mod Passed

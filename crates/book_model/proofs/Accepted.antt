@@ -16,12 +16,16 @@ use Rattle.account.specs.declared.Day.{Day}
 use Rattle.book_model.specs.declared.Parts.{Parts}
 use Rattle.account.specs.declared.RateOrder.{RateOrder}
 use Rattle.book_model.specs.declared.Refusal.{Refusal}
+use Rattle.book_model.specs.declared.Revised.{Revised}
+use Rattle.book_model.specs.declared.Taken.{Taken}
 use Rattle.book_model.specs.declared.Refusal.TheVariants as refusal
+use Rattle.book_model.specs.declared.Revised.{Revised}
+use Rattle.book_model.specs.declared.Taken.{Taken}
 use Rattle.account.specs.Accrual.{worth}
 use Rattle.book_model.specs.Advance.{last_settled, days_passed, count_of_day, advanced_to, advanced}
 use Rattle.book_model.specs.Book.{held, rates_of, settlements_of, order_from, with_held}
 use Rattle.book_model.specs.Open.{is_financing, is_term, is_recognised, new_book, opened}
-use Rattle.book_model.specs.Outcome.{Outcome, Taken, Changes, refusal_number, accept, refuse, nothing, no_days, no_parts, nothing_taken, no_changes}
+use Rattle.book_model.specs.Outcome.{Outcome, refusal_number, accept, refuse, nothing, no_days, no_parts, nothing_taken, no_changes}
 use Rattle.book_model.specs.Positions.{is_holder, present, share_of, change, less, given}
 use Rattle.book_model.specs.Rate.{starting_before, with_rate, with_rates, changes_of, revised, rated_from, rated}
 use Rattle.book_model.specs.Settle.{settled_book, taken_of, settled}
@@ -144,7 +148,7 @@ pub record RateRight (b : Book) (date annual : ℕ) : Type 0 where
   pub place-free : length (starting_before (order_of b date annual).first.0 (rates_of b)) < 16
   pub none_over : overpaid b.recognised.0 (daily_on (rates_after b (order_of b date annual))) (settlements_of b) ≡ false
 
-module _ (b : Book) (date annual : ℕ) (P : Outcome Changes → Type 0) where
+module _ (b : Book) (date annual : ℕ) (P : Outcome Revised → Type 0) where
   pub rate_cases : ((r : Refusal) → P (refuse no_changes b r))
       → (RateRight b date annual
       → P (accept (changes_of b.account (account_after b (order_of b date annual))) (revised_book b (order_of b date annual))))

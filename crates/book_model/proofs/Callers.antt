@@ -5,15 +5,15 @@ pub use Rattle.book_model.proofs.Filled.{with_array}
 -- A book's positions in use after others replace them.
 pub use Rattle.book_model.proofs.ChangedBook.{Roomy, length-held}
 -- What a caller shows: the book that a call gave back is reached.
-pub use Rattle.book_model.proofs.CallsReach.{advance-reached, call-reached, open_reached, rate-reached, settle-reached, transfer-reached}
+pub use Rattle.book_model.proofs.CallsReach.{advance-reached, call-reached, open_reached, rate-reached, reached_by, settle-reached, transfer-reached}
 -- Days passed one by one are days passed at once.
 pub use Rattle.book_model.proofs.DaysPassed.{days_at_once, days_held-at}
 -- Positions that are paid, each by its place, and the book after a settlement.
-pub use Rattle.book_model.proofs.Paid.{length-paid, paid-at, paid_by_parts, parts-most, receipt_most, receipts-settled}
+pub use Rattle.book_model.proofs.Paid.{divided, length-paid, paid-at, paid_by_parts, parts-most, receipt_most, receipts-settled}
 -- The positions of an opening: one for each holder, in order, with its share and nothing else yet.
 pub use Rattle.book_model.proofs.Founded.{founded-at, founded-receipts, founded-shares, length-founded}
--- What an accepted financing tells of its holders and shares, and the test that a refused one fails.
-pub use Rattle.book_model.proofs.Financing.{Financed, by-sum, financed, holder-twice, no_holder, share_0, too_many_holders, unequal_lengths, wrong_holder}
+-- What an accepted financing tells of its holders and shares.
+pub use Rattle.book_model.proofs.Financing.{Financed, financed}
 -- Stored rates as the account takes them: each daily number is its annual rate's, and from today on the last one holds.
 pub use Rattle.book_model.proofs.RatesInForce.{daily-most, last_elapses, last-order, moderate, priced-at, stored_is_daily}
 -- A call is accepted where all of its conditions hold; otherwise it is refused and the book stays.
@@ -23,17 +23,16 @@ pub use Rattle.book_model.proofs.Places.{found_at, found_nothing}
 -- Positions after parts of a share went from a cedent to an assignee: what stays the same.
 pub use Rattle.book_model.proofs.Assigned.{assigned, receipts-kept}
 -- The cases of Transfer.
-pub use Rattle.book_model.proofs.Transfers.{Cedent, held-count, moved-between, moved-full, moved-last, moved_none, moved-over, share-most, transfer_assignee, transfer_cedent, transfer-other, transfer-same, transfer-unknown, transfer-unopened}
+pub use Rattle.book_model.proofs.Transfers.{Cedent, held-count, moved-between, moved-full, moved-last, moved_none, moved-over, share-most, transfer-other}
 -- Every reached book is sound.
 pub use Rattle.book_model.proofs.Kept.{empty-sound, sound}
+pub use Rattle.book_model.proofs.SoundOnce.{is_sound}
 -- What each accepted call changes, and what it leaves.
 pub use Rattle.book_model.proofs.Steps.{AdvanceStep, OpenStep, SameRight, SettleStep, TransferStep, advance_step, open_step, settle_step, transfer_step}
--- The cases of Settle: what is refused, in the order of document 01's table, and what is accepted.
-pub use Rattle.book_model.proofs.Settlements.{accepted, full, no_day, overpaid, put-together, refused-book, taken-book, taken-right, too_much, unopened}
--- The cases of the readers.
-pub use Rattle.book_model.proofs.Readings.{place_beyond, place-known, place-unopened, position-known, position_no_holder, position-unknown, position-unopened, today-counted, totals_open, totals-unopened}
--- The cases of Open: each refusal given the tests before it, and the acceptance.
-pub use Rattle.book_model.proofs.OpenCases.{already_open, no_date, opens-right, wrong_amount, wrong_financing, wrong_rate, wrong_term}
+-- A settlement that is accepted, and the book after it.
+pub use Rattle.book_model.proofs.Settlements.{accepted, put-together}
+-- Today of an open book is a date, and what its totals are.
+pub use Rattle.book_model.proofs.Readings.{today-counted, totals_open}
 -- A rate order sets the rate from its first day on, and leaves the account up to that day as it was.
 pub use Rattle.book_model.proofs.RateOrders.{annual-opened, rate_sets_from, rates-with_rates}
 -- In every reached book the account is what the recognised cents, rates, settlements and today make it, and no settlement is over.

@@ -19,10 +19,10 @@ mod Assigned
 mod Transfers
 mod TransferKept
 mod Kept
+mod SoundOnce
 mod Steps
 mod Settlements
 mod Readings
-mod OpenCases
 mod RateOrders
 mod StandingKept
 mod StoredRates

@@ -1,16 +1,16 @@
 -- Positions that are paid, each by its place, and the book after a settlement.
 use Prim.Native.Nat.{ℕ, zero, suc, ◌+◌, ◌≤◌, ◌<◌}
 use native.Mathlib.Omega.{arith}
-use mathlib.Core.Path.{◌≡◌, refl, sym, ap, ◌∙◌}
+use mathlib.Core.Path.{◌≡◌, refl, ap, ◌∙◌}
 use mathlib.Core.List.{List, [], ◌∷◌}
-use lib.ListN.{length, get_or, take, length-map}
+use lib.ListN.{length, get_or, length-map}
 use lib.Seq.{take-append_seam}
 use Rattle.general_laws.specs.Sums.{sum_below, total}
 use Rattle.apportionment.proofs.Callers.{divides, padded-at, padded-behind, laws, weight-total}
 use Rattle.general_laws.proofs.Choice.{by_order}
 use Rattle.general_laws.proofs.Sums.{sum-none, sum-suc, sum_prefix, sum_first}
 use Rattle.general_laws.proofs.Totals.{total_most_of}
-use Rattle.apportionment.specs.declared.Apportioned.{Apportioned}
+use Rattle.std.specs.Prelude.{Ok}
 use Rattle.apportionment.specs.Apportionment.{total_weight, part, padded, apportioned}
 use Rattle.book_model.specs.declared.Book.{Book}
 use Rattle.book_model.specs.declared.Position.{Position}
@@ -82,35 +82,34 @@ pub part-within : (m : ℕ) (us : List ℕ) → 0 < total_weight us → (k : ℕ
 part-within m us some k lt =
     omega (arith, (laws m us some).parts-total, sum-suc k (part m us), sum_prefix (k + 1) (length us) (part m us) (omega arith))
 
--- Those of m cents by the weights ws, which begin with the unit-days of the positions ps
-module _ (n : ℕ) (some : 0 < n) (few : n ≤ 64) (ps : List Position) (as_many : length ps ≡ n)
+-- Those of m cents by the unit-days of the positions ps
+module _ (ps : List Position) (some : 0 < length ps) (few : length ps ≤ 64)
     (days-some : 0 < total (unit_days_column ps)) (days-most : total (unit_days_column ps) ≤ 92000000)
-    (m : ℕ) (small : m ≤ 100000000000) (ws : List ℕ) (same : take n ws ≡ unit_days_column ps) where
+    (m : ℕ) (small : m ≤ 100000000000) where
+  as_many : length (unit_days_column ps) ≡ length ps
+  as_many = length-map ps (λ (p : Position). p.unit_days)
+
   weights-some : 0 < total_weight (unit_days_column ps)
   weights-some = omega (arith, weight-total (unit_days_column ps))
 
-  weights-most : total_weight (unit_days_column ps) ≤ 92000000
-  weights-most = omega (arith, weight-total (unit_days_column ps))
+  pub divided : apportioned m (unit_days_column ps) ≡ Ok (padded (length (unit_days_column ps)) (part m (unit_days_column ps)))
+  divided =
+      divides m (unit_days_column ps) (omega (arith, as_many)) (omega (arith, as_many)) small weights-some
+      (omega (arith, weight-total (unit_days_column ps)))
 
-  parts_are : (apportioned m ws n).parts ≡ padded n (part m (unit_days_column ps))
-  parts_are =
-      ap (λ (r : Apportioned). r.parts) (sym (divides m ws n (λ e. omega arith) few small (rw same weights-some) (rw same weights-most)))
-      ∙ ap (λ us. padded n (part m us)) same
+  module _ (parts : List ℕ) (are : parts ≡ padded (length (unit_days_column ps)) (part m (unit_days_column ps))) where
+    parts_at : (k : ℕ) → k < length ps → get_or parts k 0 ≡ part m (unit_days_column ps) k
+    parts_at k lt = rw are (padded-at (length (unit_days_column ps)) (part m (unit_days_column ps)) k (omega (arith, as_many)) (omega (arith, as_many)))
 
-  parts_at : (k : ℕ) → k < n → get_or (apportioned m ws n).parts k 0 ≡ part m (unit_days_column ps) k
-  parts_at k lt = rw parts_are (padded-at n (part m (unit_days_column ps)) k lt few)
+    pub parts-most : (k : ℕ) → get_or parts k 0 ≤ 100000000001
+    parts-most k =
+        by_order k (length ps)
+        (λ lt. omega (arith, parts_at k lt, part-within m (unit_days_column ps) weights-some k (omega (arith, as_many))))
+        (λ ge. rw are (omega (arith, padded-behind (length (unit_days_column ps)) (part m (unit_days_column ps)) k (omega (arith, as_many)))))
 
-  pub parts-most : (k : ℕ) → get_or (apportioned m ws n).parts k 0 ≤ 100000000001
-  parts-most k =
-      let e : length (unit_days_column ps) ≡ n = length-map ps (λ (p : Position). p.unit_days) ∙ as_many in
-      by_order k n
-      (λ lt. omega (arith, parts_at k lt, part-within m (unit_days_column ps) weights-some k (omega arith)))
-      (λ ge. rw parts_are (omega (arith, padded-behind n (part m (unit_days_column ps)) k ge)))
-
-  -- the positions paid by them
-  pub paid_by_parts : paid_from (λ k. get_or (apportioned m ws n).parts k 0) 0 ps ≡ paid_from (part m (unit_days_column ps)) 0 ps
-  paid_by_parts =
-      paid-same (λ k. get_or (apportioned m ws n).parts k 0) (part m (unit_days_column ps)) ps (λ k lt. parts_at k (omega arith))
+    -- the positions paid by them
+    pub paid_by_parts : paid_from (λ k. get_or parts k 0) 0 ps ≡ paid_from (part m (unit_days_column ps)) 0 ps
+    paid_by_parts = paid-same (λ k. get_or parts k 0) (part m (unit_days_column ps)) ps parts_at
 
 -- The book after a settlement of m cents
 

@@ -1,49 +1,40 @@
 -- Where a holder stands among positions, and what a search for it found.
 use Prim.Native.Nat.{ℕ, suc, ◌<◌}
 use native.Mathlib.Omega.{arith}
-use mathlib.Core.Path.{◌≡◌, refl}
+use mathlib.Core.Path.{◌≡◌, refl, ap, ◌∙◌}
 use mathlib.Core.Bool.{Bool, true, false, cond}
 use mathlib.Core.List.{List, [], ◌∷◌}
-use borrow.Author.Tests.{eq-eqb, ne_eqb, lt-ltb, le-ltb, eqb-true, ltb-true}
+use borrow.Author.Tests.{eqb-true, ltb-true}
 use lib.Dec.{eqb}
-use lib.ListN.{length, take, drop, get_or}
-use lib.Seq.{drop-cons, get_or-take}
+use lib.ListN.{length, get_or}
 use Rattle.book_model.specs.declared.Position.{Position}
-use Rattle.book_model.specs.declared.positions.Found.TheVariants.{At, Nothing}
-use Rattle.book_model.specs.Positions.{place, present, share_of}
-use Rattle.book_model.specs.Positions.{found_in}
+use Rattle.std.specs.Prelude.{Some, None}
+use Rattle.std.specs.List.{position_or_len}
+use Rattle.std.proofs.lemmas.List.Recursion.{is_position_or_len}
+use Rattle.book_model.specs.Positions.{place, present, share_of, found_in}
 
--- A search from the front
+-- std's search for the first position of a holder finds it at its place
+pub place_first : (ps : List Position) (h : ℕ) → place h ps ≡ position_or_len (λ (p : Position). eqb p.holder h) ps
+place_first ps h = is_position_or_len (place h) (λ (p : Position). eqb p.holder h) refl
+    (λ (x : Position) (xs : List Position). ap (λ (n : ℕ). cond (eqb x.holder h) 0 n) (omega arith)) ps
 
-module _ (h n : ℕ) (l : List Position) (i : ℕ) (d : Position) (within : i < length (take n l)) (below : i < n) where
-  -- it stands at a position of the holder
-  pub place-hit : (get_or l i d).holder ≡ h → place h (drop i (take n l)) ≡ 0
-  place-hit e = rw (drop-cons (take n l) i d within, get_or-take n l i d below, eq-eqb _ _ e)
-
-  -- it passes a position of another
-  pub place-miss : ((get_or l i d).holder ≡ h → ⊥) → place h (drop i (take n l)) ≡ suc (place h (drop (suc i) (take n l)))
-  place-miss e = rw (drop-cons (take n l) i d within, get_or-take n l i d below, ne_eqb _ _ e)
+found_first : (ps : List Position) (h : ℕ) → found_in ps h ≡ cond (present h ps) (Some (place h ps)) None
+found_first ps h = rw (place_first ps h) refl
 
 module _ (ps : List Position) (h : ℕ) where
-  pub found_here : (i : ℕ) → place h ps ≡ i → i < length ps → At i ≡ found_in ps h
-  found_here i e lt = rw (e, lt-ltb i (length ps) lt)
-
-  pub found_none : place h ps ≡ length ps → Nothing ≡ found_in ps h
-  found_none e = rw (e, le-ltb (length ps) (length ps) (omega arith))
-
   -- What it found
 
-  pub found_at : (i : ℕ) → At i ≡ found_in ps h → (i ≡ place h ps) × (i < length ps) × (present h ps ≡ true)
-  found_at i e = go (present h ps) refl e
+  pub found_at : (i : ℕ) → Some i ≡ found_in ps h → (i ≡ place h ps) × (i < length ps) × (present h ps ≡ true)
+  found_at i e = go (present h ps) refl (e ∙ found_first ps h)
     where
-      go : (t : Bool) → present h ps ≡ t → At i ≡ cond t (At (place h ps)) Nothing → (i ≡ place h ps) × (i < length ps) × (present h ps ≡ true)
+      go : (t : Bool) → present h ps ≡ t → Some i ≡ cond t (Some (place h ps)) None → (i ≡ place h ps) × (i < length ps) × (present h ps ≡ true)
       go true p q = let same : i ≡ place h ps = cc in (same, omega (arith, ltb-true (place h ps) (length ps) p), p)
       go false p q = let z : ◌≡◌ {A = ℕ} 0 1 = cc in absurd (omega arith)
 
-  pub found_nothing : Nothing ≡ found_in ps h → present h ps ≡ false
-  found_nothing e = go (present h ps) e
+  pub found_nothing : None ≡ found_in ps h → present h ps ≡ false
+  found_nothing e = go (present h ps) (e ∙ found_first ps h)
     where
-      go : (t : Bool) → Nothing ≡ cond t (At (place h ps)) Nothing → t ≡ false
+      go : (t : Bool) → None ≡ cond t (Some (place h ps)) None → t ≡ false
       go true q = let z : ◌≡◌ {A = ℕ} 0 1 = cc in absurd (omega arith)
       go false q = refl
 

@@ -140,29 +140,9 @@ module _ {b : Book} {c i : ℕ} (cedent : Cedent b c i) where
 -- The refusals before that, in their order, and what is left
 
 module _ (b : Book) (c a : ℕ) (n : Parts) where
-  pub transfer-unopened : not b.opened ≡ true → refuse no_parts b refusal.Unopened ≡ transferred b c a n
-  unfolding transferred
-  transfer-unopened e = rw e
-
   module _ (opened : not b.opened ≡ false) where
-    pub transfer_cedent : not (is_holder c) ≡ true → refuse no_parts b refusal.Holder ≡ transferred b c a n
-    unfolding transferred
-    transfer_cedent e = rw (opened, e)
-
     module _ (cedent : not (is_holder c) ≡ false) where
-      pub transfer_assignee : not (is_holder a) ≡ true → refuse no_parts b refusal.Holder ≡ transferred b c a n
-      unfolding transferred
-      transfer_assignee e = rw (opened, cedent, e)
-
       module _ (assignee : not (is_holder a) ≡ false) where
-        pub transfer-unknown : present c (held b) ≡ false → refuse no_parts b refusal.Holder ≡ transferred b c a n
-        unfolding transferred
-        transfer-unknown e = rw (opened, cedent, assignee, e)
-
-        pub transfer-same : present c (held b) ≡ true → c ≡ a → refuse no_parts b refusal.Holder ≡ transferred b c a n
-        unfolding transferred
-        transfer-same there e = rw (opened, cedent, assignee, there, eq-eqb c a e)
-
         pub transfer-other : present c (held b) ≡ true → (c ≡ a → ⊥) → moved b c a n.0 ≡ transferred b c a n
         unfolding transferred
         transfer-other there e = rw (opened, cedent, assignee, there, ne_eqb c a e)

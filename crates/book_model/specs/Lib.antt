@@ -12,5 +12,6 @@ pub mod Rate
 pub mod Call
 pub mod Calls
 pub mod Reached
+pub mod Called
 pub mod Closed
 pub mod Invariant

@@ -1,8 +1,6 @@
 -- Positions in book order: looked up and changed by holder, aged by days, paid by parts.
-use Rattle.std.specs.Prelude.{ℕ, suc, ◌+◌, ◌-◌, Bool, cond, not, ◌&&◌, List, [], ◌∷◌, ◌++◌, map, leb, ltb, eqb, length}
+use Rattle.std.specs.Prelude.{ℕ, suc, ◌+◌, ◌-◌, Option, position, Bool, cond, not, ◌&&◌, List, [], ◌∷◌, ◌++◌, map, leb, ltb, eqb, length}
 use Rattle.book_model.specs.declared.Position.{Position}
-use Rattle.book_model.specs.declared.positions.Found.{Found}
-use Rattle.book_model.specs.declared.positions.Found.TheVariants.{At, Nothing}
 use Rattle.book_model.specs.Book.{fresh}
 
 -- a holder's number: not "0 or over 999,999,999"
@@ -17,8 +15,8 @@ place h (p ∷ ps) = cond (eqb p.holder h) 0 (suc (place h ps))
 abbrev pub present : ℕ → List Position → Bool
 present h ps = ltb (place h ps) (length ps)
 
-abbrev pub found_in : List Position → ℕ → Found
-found_in ps h = cond (present h ps) (At (place h ps)) Nothing
+abbrev pub found_in : List Position → ℕ → Option ℕ
+found_in ps h = position (λ (p : Position). eqb p.holder h) ps
 
 -- the holder's share; 0 where it has no position
 abbrev pub share_of : ℕ → List Position → ℕ

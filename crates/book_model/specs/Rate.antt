@@ -5,9 +5,10 @@ use Rattle.account.specs.declared.Account.{Account}
 use Rattle.book_model.specs.declared.Book.{Book}
 use Rattle.account.specs.declared.RateOrder.{RateOrder}
 use Rattle.book_model.specs.declared.Refusal.TheVariants as refusal
+use Rattle.book_model.specs.declared.Revised.{Revised}
 use Rattle.book_model.specs.Advance.{count_of_day}
 use Rattle.book_model.specs.Book.{order_from, rates_of, settlements_of}
-use Rattle.book_model.specs.Outcome.{Outcome, Changes, no_changes, accept, refuse}
+use Rattle.book_model.specs.Outcome.{Outcome, no_changes, accept, refuse}
 use Rattle.book_model.specs.Schedule.{daily_on}
 use Rattle.account.specs.Standing.{account_at, overpaid}
 
@@ -39,7 +40,7 @@ with_rates b orders a =
     }
 
 -- "Answers outstanding after minus before, and due after minus before, signed."
-abbrev pub changes_of : Account → Account → Changes
+abbrev pub changes_of : Account → Account → Revised
 changes_of before after =
     record {
       outstanding = record { 0 = pos after.outstanding.0 -ℤ pos before.outstanding.0 };
@@ -48,7 +49,7 @@ changes_of before after =
 
 -- an order that meets the conditions before 14. "Outstanding, interest due, fraction and both paid totals become what they'd be had these rates
 -- held from the start, with the same settlements on the same days."
-unfoldable pub revised : Book → RateOrder → Outcome Changes
+unfoldable pub revised : Book → RateOrder → Outcome Revised
 revised b o =
     -- 14: "some past settlement would be so under the new rates"
     cond (overpaid b.recognised.0 (daily_on (with_rate o (rates_of b))) (settlements_of b)) (refuse no_changes b refusal.Overpaid)
@@ -57,7 +58,7 @@ revised b o =
     (with_rates b (with_rate o (rates_of b)) (account_at b.recognised.0 (daily_on (with_rate o (rates_of b))) (settlements_of b) b.today.0)))
 
 -- from the date of a day count
-unfoldable pub rated_from : Book → ℕ → ℕ → Outcome Changes
+unfoldable pub rated_from : Book → ℕ → ℕ → Outcome Revised
 rated_from b count annual =
     -- 8: "before day 0 or after today"
     cond (ltb count (count_of_day b 0) || ltb (count_of_day b b.today.0) count) (refuse no_changes b refusal.Day)
@@ -65,7 +66,7 @@ rated_from b count annual =
     (cond (leb 16 (length (starting_before (count - day_count b.first) (rates_of b)))) (refuse no_changes b refusal.BookFull)
     (revised b (order_from (count - day_count b.first) annual)))
 
-unfoldable pub rated : Book → ℕ → ℕ → Outcome Changes
+unfoldable pub rated : Book → ℕ → ℕ → Outcome Revised
 rated b date annual =
     cond (not b.opened) (refuse no_changes b refusal.Unopened)
     (cond (not (is_date date)) (refuse no_changes b refusal.Date)

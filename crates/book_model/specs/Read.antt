@@ -5,8 +5,10 @@ use Rattle.calendar.specs.Calendar.{after}
 use Rattle.book_model.specs.declared.Book.{Book}
 use Rattle.book_model.specs.declared.Position.{Position}
 use Rattle.book_model.specs.declared.Refusal.TheVariants as refusal
+use Rattle.book_model.specs.declared.Placed.{Placed}
+use Rattle.book_model.specs.declared.Totals.{Totals}
 use Rattle.book_model.specs.Book.{held}
-use Rattle.book_model.specs.Outcome.{Answer, Placed, Totals, no_position, not_placed, no_totals, answered, declined}
+use Rattle.book_model.specs.Outcome.{Answer, no_position, not_placed, no_totals, answered, declined}
 use Rattle.book_model.specs.Positions.{is_holder, place, present}
 
 unfoldable pub position_of : Book → ℕ → Answer Position

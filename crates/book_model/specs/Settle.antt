@@ -4,11 +4,12 @@ use Rattle.apportionment.specs.Apportionment.{part}
 use Rattle.book_model.specs.declared.Book.{Book}
 use Rattle.account.specs.declared.Cents.{Cents}
 use Rattle.book_model.specs.declared.Refusal.TheVariants as refusal
+use Rattle.book_model.specs.declared.Taken.{Taken}
 use Rattle.account.specs.declared.Settlement.{Settlement}
 use Rattle.account.specs.Accrual.{interest_of, principal_of, paid_off, worth}
 use Rattle.book_model.specs.Advance.{last_settled}
 use Rattle.book_model.specs.Book.{held, with_held, with_account, with_settlement}
-use Rattle.book_model.specs.Outcome.{Outcome, Taken, nothing_taken, accept, refuse}
+use Rattle.book_model.specs.Outcome.{Outcome, nothing_taken, accept, refuse}
 use Rattle.book_model.specs.Positions.{paid_from, unit_days_column}
 
 -- "Let W be all unit-days since the last settlement and w a position's. Each receives M × w divided by W, rounded down; the cents left over

@@ -3,19 +3,22 @@
 // anyone else put together is not known to be `Reached`.
 #![tactic(auto)]
 
-mod accounting;
+mod called;
 mod days;
-mod numbers;
 mod positions;
 
 ghost use Rattle.std.specs.Prelude.{◌≡◌};
 ghost use Rattle.book_model.specs.Book.{empty_book};
 ghost use Rattle.book_model.specs.Outcome.{refusal_number};
+ghost use Rattle.book_model.specs.declared.Refusal.TheVariants.{Date, Rate};
 
-pub use crate::accounting::daily_rate;
+pub use crate::called::{Called, ReachedBook};
 pub use crate::days::count_of;
-pub use crate::positions::{Found, find, is_holder};
+pub use crate::positions::{find, is_holder};
 pub use account::{Account, Cents, Day, RateOrder, Settlement};
+use answers::Numbered;
+use calendar::NotADate;
+use rates::OverGreatest;
 
 // A difference of money, in whole cents.
 #[derive(Clone, Copy)]
@@ -34,7 +37,8 @@ pub struct Position {
     pub received: Cents,
 }
 
-// One collection right, or none. The first day is a date; positions stand in order of first appearance.
+// One collection right, or none. The first day is a date; positions stand in order of first appearance. `opened` is a flag and the lists are arrays
+// with counts beside them, as the papers name that form: a book holds everything by value, and an empty one is the same for every caller.
 #[derive(Clone, Copy)]
 pub struct Book {
     pub opened: bool,
@@ -52,7 +56,7 @@ pub struct Book {
 }
 
 // Why a call is refused, in document 01's trade words.
-#[derive(Clone, Copy)]
+#[derive(Clone, Copy, Debug, PartialEq, Eq)]
 pub enum Refusal {
     Unopened,
     AlreadyOpen,
@@ -70,11 +74,11 @@ pub enum Refusal {
     Overpaid,
 }
 
-impl Refusal {
-    // Its number in document 01's table.
-    pub fn number(self) -> u32
-        ensures { result ≡ refusal_number self }
-    {
+// Its number in document 01's table.
+impl Numbered for Refusal {
+    ghost number = { refusal_number };
+
+    fn number(self) -> u32 {
         match self {
             Refusal::Unopened => 1,
             Refusal::AlreadyOpen => 2,
@@ -94,91 +98,48 @@ impl Refusal {
     }
 }
 
-#[derive(Clone, Copy)]
-pub enum OpenAnswer {
-    Accepted,
-    Refused(Refusal),
+impl From<NotADate> for Refusal {
+    ghost from_gives = { λ _ refusal. refusal ≡ Date };
+
+    fn from(_: NotADate) -> Refusal {
+        Self::Date
+    }
 }
 
-#[derive(Clone, Copy)]
-pub struct Opened {
-    pub answer: OpenAnswer,
-    pub book: Book,
-}
+impl From<OverGreatest> for Refusal {
+    ghost from_gives = { λ _ refusal. refusal ≡ Rate };
 
-// The number of days passed.
-#[derive(Clone, Copy)]
-pub enum AdvanceAnswer {
-    Passed(Day),
-    Refused(Refusal),
-}
-
-#[derive(Clone, Copy)]
-pub struct Advanced {
-    pub answer: AdvanceAnswer,
-    pub book: Book,
-}
-
-// The cedent's remaining share.
-#[derive(Clone, Copy)]
-pub enum TransferAnswer {
-    Remaining(Parts),
-    Refused(Refusal),
-}
-
-#[derive(Clone, Copy)]
-pub struct Transferred {
-    pub answer: TransferAnswer,
-    pub book: Book,
+    fn from(_: OverGreatest) -> Refusal {
+        Self::Rate
+    }
 }
 
 // The interest and the principal that a settlement took.
 #[derive(Clone, Copy)]
-pub enum SettleAnswer {
-    Taken { interest: Cents, principal: Cents },
-    Refused(Refusal),
-}
-
-#[derive(Clone, Copy)]
-pub struct Settled {
-    pub answer: SettleAnswer,
-    pub book: Book,
+pub struct Taken {
+    pub interest: Cents,
+    pub principal: Cents,
 }
 
 // How a revised rate changed outstanding and interest due.
 #[derive(Clone, Copy)]
-pub enum RateAnswer {
-    Revised {
-        outstanding: CentsChange,
-        due: CentsChange,
-    },
-    Refused(Refusal),
-}
-
-#[derive(Clone, Copy)]
-pub struct Rated {
-    pub answer: RateAnswer,
-    pub book: Book,
-}
-
-#[derive(Clone, Copy)]
-pub enum PositionAnswer {
-    Held(Position),
-    Refused(Refusal),
+pub struct Revised {
+    pub outstanding: CentsChange,
+    pub due: CentsChange,
 }
 
 // The position at a place in book order, and how many there are.
 #[derive(Clone, Copy)]
-pub enum PlaceAnswer {
-    Placed { count: usize, position: Position },
-    Refused(Refusal),
+pub struct Placed {
+    pub count: usize,
+    pub position: Position,
 }
 
 // Today is a date.
 #[derive(Clone, Copy)]
-pub enum TotalsAnswer {
-    Totals { today: u32, account: Account },
-    Refused(Refusal),
+pub struct Totals {
+    pub today: u32,
+    pub account: Account,
 }
 
 impl Book {
@@ -197,6 +158,7 @@ impl Book {
     // The greatest number of a holder.
     pub const GREATEST_HOLDER: u32 = 999999999;
 
+    #[tactic(auto, unfolding(crate::specs::Book::empty_book))]
     pub fn empty() -> Book
         ensures { result ≡ empty_book }
     {
@@ -215,13 +177,6 @@ impl Book {
             annual: 0,
             daily: 0,
         };
-        let account = Account {
-            outstanding: Cents(0),
-            due: Cents(0),
-            fraction: 0,
-            principal_paid: Cents(0),
-            interest_paid: Cents(0),
-        };
         let positions = [position; Book::POSITIONS];
         let settlements = [settlement; Book::SETTLEMENTS];
         let rates = [order; Book::RATES];
@@ -231,7 +186,7 @@ impl Book {
             term: Day(0),
             today: Day(0),
             recognised: Cents(0),
-            account: account,
+            account: Account::opening(Cents(0)),
             count: 0,
             positions: positions,
             settled: 0,

@@ -2,76 +2,60 @@
 #![tactic(auto)]
 
 ghost use Rattle.std.specs.Prelude.{◌≡◌};
-ghost use Rattle.book_model.specs.Outcome.{position_stated, place_stated, totals_stated};
-ghost use Rattle.book_model.specs.Reached.{Reached};
+ghost use Rattle.book_model.specs.Outcome.{case_of, no_position, not_placed, no_totals};
 ghost use Rattle.book_model.specs.Read.{position_of, position_at, totals_of};
 
-use book_model::{
-    Book, Found, PlaceAnswer, PositionAnswer, Refusal, TotalsAnswer, find, is_holder,
-};
-use calendar::DateSum;
+use book_model::{Placed, Position, ReachedBook, Refusal, Totals, find, is_holder};
 
-pub fn position_of(book: Book, holder: u32) -> PositionAnswer
-    requires { Reached book }
-    ensures { position_stated result ≡ position_of book holder }
+#[tactic(auto, unfolding(book_model::specs::Read::position_of))]
+pub fn position_of(book: &ReachedBook, holder: u32) -> Result<Position, Refusal>
+    ensures { case_of no_position result ≡ position_of book.now.book holder }
 {
-    let opened = book.opened;
-    if !opened {
-        return PositionAnswer::Refused(Refusal::Unopened);
+    let book = &book.book;
+    if !book.opened {
+        return Err(Refusal::Unopened);
     }
     if !is_holder(holder) {
-        return PositionAnswer::Refused(Refusal::Holder);
+        return Err(Refusal::Holder);
     }
-    let positions = book.positions;
-    let count = book.count;
-    match find(positions, count, holder) {
-        Found::At(at) => {
-            let position = positions[at];
-            PositionAnswer::Held(position)
-        }
-        Found::Nothing => PositionAnswer::Refused(Refusal::Holder),
+    let held = &book.positions[..book.count];
+    match find(held, holder) {
+        Some(place) => Ok(held[place]),
+        None => Err(Refusal::Holder),
     }
 }
 
 // The position at a place in book order, counted from 0.
-pub fn position_at(book: Book, place: usize) -> PlaceAnswer
-    requires { Reached book }
-    ensures { place_stated result ≡ position_at book place }
+#[tactic(auto, unfolding(book_model::specs::Read::position_at))]
+pub fn position_at(book: &ReachedBook, place: usize) -> Result<Placed, Refusal>
+    ensures { case_of not_placed result ≡ position_at book.now.book place }
 {
-    let opened = book.opened;
-    if !opened {
-        return PlaceAnswer::Refused(Refusal::Unopened);
+    let book = &book.book;
+    if !book.opened {
+        return Err(Refusal::Unopened);
     }
     let count = book.count;
     if count <= place {
-        return PlaceAnswer::Refused(Refusal::Holder);
+        return Err(Refusal::Holder);
     }
-    let positions = book.positions;
-    let position = positions[place];
-    PlaceAnswer::Placed {
-        count: count,
-        position: position,
-    }
+    Ok(Placed {
+        count,
+        position: book.positions[place],
+    })
 }
 
-pub fn totals(book: Book) -> TotalsAnswer
-    requires { Reached book }
-    ensures { totals_stated result ≡ totals_of book }
+#[tactic(auto, unfolding(book_model::specs::Read::totals_of))]
+pub fn totals(book: &ReachedBook) -> Result<Totals, Refusal>
+    ensures { case_of no_totals result ≡ totals_of book.now.book }
 {
-    let opened = book.opened;
-    if !opened {
-        return TotalsAnswer::Refused(Refusal::Unopened);
+    let book = &book.book;
+    if !book.opened {
+        return Err(Refusal::Unopened);
     }
-    let account = book.account;
-    match calendar::plus_days(book.first, book.today.0) {
-        DateSum::Date(today) => TotalsAnswer::Totals {
-            today: today,
-            account: account,
-        },
-        // Not reached: a right begins by 20991231 and has 6,000 days at most, so today is a date.
-        DateSum::Refused => TotalsAnswer::Totals {
-            today: 0,
-            account: account,
-        },
-    }
+    // Today is a date: a right begins by 20991231 and has 6,000 days at most.
+    let today = calendar::plus_days(book.first, book.today.0).unwrap_or(0);
+    Ok(Totals {
+        today,
+        account: book.account,
+    })
 }

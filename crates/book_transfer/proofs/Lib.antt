@@ -1,3 +1,2 @@
--- Facts about searches and answers of a transfer, for this crate's functions.
-mod Searches
-mod Answers
+-- What the proof of a transfer cites.
+pub mod Found

@@ -1,6 +1,73 @@
 // Transfer (document 01): parts of a share move from cedent to assignee.
 #![tactic(auto)]
 
-mod moving;
+ghost use Rattle.std.specs.Prelude.{◌≡◌};
+ghost use Rattle.book_model.specs.Called.{stated};
+ghost use Rattle.book_model.specs.Invariant.{Sound};
+ghost use Rattle.book_model.specs.Outcome.{no_parts, outcome};
+ghost use Rattle.book_model.specs.Transfer.{transferred};
 
-pub use crate::moving::transfer;
+use book_model::{Book, Called, Cents, Parts, Position, ReachedBook, Refusal, find, is_holder};
+
+// The book that comes in is changed in place; a refusal leaves it as it was. It asks for a sound book, as no type says so while the parts change.
+#[tactic(auto, unfolding(book_model::specs::Transfer::transferred))]
+fn transfer_in(book: &mut Book, cedent: u32, assignee: u32, parts: Parts) -> Result<Parts, Refusal>
+    requires { Sound book.old }
+    ensures { outcome no_parts result book.new ≡ transferred book.old cedent assignee parts }
+{
+    if !book.opened {
+        return Err(Refusal::Unopened);
+    }
+    if !is_holder(cedent) || !is_holder(assignee) || cedent == assignee {
+        return Err(Refusal::Holder);
+    }
+    let held = &book.positions[..book.count];
+    let from = find(held, cedent).ok_or(Refusal::Holder)?;
+    let share = book.positions[from].share.0;
+    if parts.0 == 0 || share < parts.0 {
+        return Err(Refusal::Share);
+    }
+    let to = find(held, assignee);
+    if to.is_none() && book.count == Book::POSITIONS {
+        return Err(Refusal::BookFull);
+    }
+    let remaining = Parts(share - parts.0);
+    book.positions[from].share = remaining;
+    match to {
+        Some(to) => book.positions[to].share.0 += parts.0,
+        None => {
+            book.positions[book.count] = Position {
+                holder: assignee,
+                share: parts,
+                unit_days: 0,
+                received: Cents(0),
+            };
+            book.count += 1;
+        }
+    }
+    Ok(remaining)
+}
+
+// The same on a book that the caller keeps.
+pub fn transfer_in_place(
+    book: &mut ReachedBook,
+    cedent: u32,
+    assignee: u32,
+    parts: Parts,
+) -> Result<Parts, Refusal>
+    ensures { outcome no_parts result book.new.book ≡ transferred book.old.book cedent assignee parts }
+{
+    transfer_in(&mut book.book, cedent, assignee, parts)
+}
+
+// By value, the form of every call: written out in each, as one for all would have a closure's contract for its own.
+pub fn transfer(book: ReachedBook, cedent: u32, assignee: u32, parts: Parts) -> Called<Parts>
+    ensures { stated no_parts result ≡ transferred book.book cedent assignee parts }
+{
+    let mut after = book;
+    let answer = transfer_in_place(&mut after, cedent, assignee, parts);
+    Called {
+        answer,
+        book: after,
+    }
+}

@@ -1,5 +1,5 @@
--- What is answered in each case, and what an answer tells that a `match` found.
-use mathlib.Core.Path.{◌≡◌, refl, ◌∙◌, sym, ap}
+-- What is answered in each case, and what an answer tells.
+use mathlib.Core.Path.{◌≡◌, refl, ◌∙◌, ap}
 use mathlib.Core.Logic.{◌⊎◌, inl, inr, ⊎_elim}
 use mathlib.Core.Bool.{Bool, true, false, cond, ◌&&◌, and-eq-true_iff, and-false}
 use Prim.Native.Nat.{ℕ, ◌+◌, ◌<◌}
@@ -7,14 +7,19 @@ use native.Mathlib.Omega.{arith}
 use borrow.Author.Tests.{leb-true, leb-false, le-leb, lt-leb}
 use lib.Dec.{leb}
 use lib.IntN.{pos, ◌-ℤ◌}
-use Rattle.general_laws.proofs.Choice.{either_false}
-use Rattle.calendar.specs.declared.DayCount.{DayCount}
-use Rattle.calendar.specs.declared.DayCount.TheVariants.{Day, NoDate}
-use Rattle.calendar.specs.declared.DateSum.{DateSum}
-use Rattle.calendar.specs.declared.DateSum.TheVariants.{Date, Refused}
+use Rattle.std.specs.Prelude.{Result, Ok, Err, IsErr}
+use Rattle.std.specs.Result.{result_unwrap_or as unwrap_or}
+use Rattle.general_laws.proofs.Choice.{either_false, true_not_false}
+use Rattle.answers.specs.Answers.{stated}
+use Rattle.calendar.specs.declared.NotADate.{NotADate}
 use Rattle.calendar.specs.Calendar.{last_date, is_date, after, day_count}
-use Rattle.calendar.specs.Answers.{date_number, count_stated, count_of, sum_stated, sum_of, between_of}
-use Rattle.calendar.proofs.Counts.{last-count, count-within}
+use Rattle.calendar.specs.Answers.{date_number, date_stated, count_of, sum_of, between_of}
+use Rattle.calendar.proofs.Counts.{last-count, count_within}
+
+-- a refusal has the number of what is not a date
+pub refusal : {A : Type 0} (none : A) (r : Result A NotADate) → IsErr r → stated (λ _. date_number) none r ≡ (date_number, none)
+refusal none (Ok value) e = true_not_false false e refl
+refusal none (Err _) e = refl
 
 -- an answer that a test decides
 abbrev answer : {A : Type 0} → A → A → Bool → ℕ × A
@@ -40,19 +45,15 @@ module _ (x : ℕ) where
   unfolding count_of
   count-date e = rw e
 
-  pub count_none : is_date x ≡ false → count_of x ≡ (date_number, 0)
+  pub day_tells : (n : ℕ) → (0, n) ≡ count_of x → Counted x n
   unfolding count_of
-  count_none e = rw e
+  day_tells n e =
+      let told = accepted _ _ (is_date x) e in
+      record { is-date = told.0; is-count = told.1; within = omega (arith, told.1, count_within x told.0) }
 
-  pub day_tells : (n : ℕ) {r : DayCount} → r ≡ Day n → count_stated r ≡ count_of x → Counted x n
+  pub no_date_tells : (date_number, 0) ≡ count_of x → is_date x ≡ false
   unfolding count_of
-  day_tells n q e =
-      let told = accepted _ _ (is_date x) (ap count_stated (sym q) ∙ e) in
-      record { is-date = told.0; is-count = told.1; within = omega (arith, told.1, count-within x told.0) }
-
-  pub no_date_tells : {r : DayCount} → r ≡ NoDate → count_stated r ≡ count_of x → is_date x ≡ false
-  unfolding count_of
-  no_date_tells q e = refused _ _ (is_date x) (ap count_stated (sym q) ∙ e)
+  no_date_tells e = refused _ _ (is_date x) e
 
 -- Sums of a date and days
 
@@ -77,10 +78,10 @@ module _ (x n : ℕ) where
   unfolding sum_of
   sum_beyond h = rw (lt-leb (day_count x + n) (day_count last_date) (omega (arith, last-count)), and-false)
 
-  pub date_tells : (y : ℕ) {r : DateSum} → r ≡ Date y → sum_stated r ≡ sum_of x n → Summed x n y
+  pub date_tells : (y : ℕ) → (0, y) ≡ sum_of x n → Summed x n y
   unfolding sum_of
-  date_tells y q e =
-      let told = accepted _ _ (is_date x && in_range) (ap sum_stated (sym q) ∙ e) in
+  date_tells y e =
+      let told = accepted _ _ (is_date x && in_range) e in
       let both = (and-eq-true_iff (is_date x) in_range).0 told.0 in
       record {
         is-date = both.0;
@@ -88,11 +89,16 @@ module _ (x n : ℕ) where
         is_sum = told.1;
       }
 
-  pub refused_tells : {r : DateSum} → r ≡ Refused → sum_stated r ≡ sum_of x n → (is_date x ≡ false) ⊎ (73048 < day_count x + n)
+  -- the value of the answer, where the sum is a date
+  pub sum_value : (r : Result ℕ NotADate) → date_stated r ≡ sum_of x n → is_date x ≡ true → day_count x + n < 73049 → unwrap_or r 0 ≡ after x n
+  sum_value (Ok y) e d h = (date_tells y e).is_sum
+  sum_value (Err _) e d h = let z : ◌≡◌ {A = ℕ} 3 0 = ap (λ (r : ℕ × ℕ). r.0) (e ∙ sum-date d h) in absurd (omega arith)
+
+  pub refused_tells : (date_number, 0) ≡ sum_of x n → (is_date x ≡ false) ⊎ (73048 < day_count x + n)
   unfolding sum_of
-  refused_tells q e =
+  refused_tells e =
       ⊎_elim inl (λ f. inr (omega (arith, last-count, leb-false (day_count x + n) (day_count last_date) f)))
-      (either_false (is_date x) in_range (refused _ _ (is_date x && in_range) (ap sum_stated (sym q) ∙ e)))
+      (either_false (is_date x) in_range (refused _ _ (is_date x && in_range) e))
 
 -- Days between dates
 

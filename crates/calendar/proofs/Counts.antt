@@ -28,8 +28,8 @@ made_is_date (suc n) h =
 pub count_of_date : (n : ℕ) → n < 73049 → day_count (after first_date n) ≡ n
 count_of_date n h = after_injective first_date _ n (date_of_count (after first_date n) (made_is_date n h))
 
-pub count-within : (x : ℕ) → is_date x ≡ true → day_count x < 73049
-count-within x e =
+pub count_within : (x : ℕ) → is_date x ≡ true → day_count x < 73049
+count_within x e =
     let p = parts_of x e in
     let beyond = after_lt first_date 73048 73049 (omega arith) in
     lt_of_after_lt first_date (day_count x) 73049

@@ -1,5 +1,5 @@
 -- The crate's laws.
-use mathlib.Core.Path.{◌≡◌, refl, sym, ◌∙◌, ap}
+use mathlib.Core.Path.{◌≡◌, sym, ◌∙◌, ap}
 use mathlib.Core.Logic.{⊎_elim}
 use Prim.Native.Nat.{ℕ, ◌+◌}
 use native.Mathlib.Nat.{add_assoc}
@@ -7,13 +7,13 @@ use native.Mathlib.Omega.{arith}
 use Rattle.calendar.specs.Answers.{date_number, sum_of}
 use Rattle.calendar.specs.Laws.{Laws}
 use Rattle.calendar.proofs.Walk.{date_of_count, after-sum}
-use Rattle.calendar.proofs.Counts.{last-count, count-within, count_of_date, made_is_date, sum_is_date, count_of_sum, count-grows, date-grows}
+use Rattle.calendar.proofs.Counts.{last-count, count_within, count_of_date, made_is_date, sum_is_date, count_of_sum, count-grows, date-grows}
 use Rattle.calendar.proofs.Answers.{date_tells, refused_tells, sum-none, sum_beyond}
 
 sum_of_sum : (x y m n : ℕ) → sum_of x m ≡ (0, y) → sum_of y n ≡ sum_of x (m + n)
 unfolding sum_of
 sum_of_sum x y m n e =
-    let told = date_tells x m y refl (sym e) in
+    let told = date_tells x m y (sym e) in
     ap (λ (z : ℕ). sum_of z n) told.is_sum ∙ rw (
       told.is-date,
       sum_is_date x m told.is-date told.within,
@@ -24,13 +24,13 @@ sum_of_sum x y m n e =
 
 beyond_stays : (x m n : ℕ) → sum_of x m ≡ (date_number, 0) → sum_of x (m + n) ≡ (date_number, 0)
 beyond_stays x m n e =
-    ⊎_elim (λ f. sum-none x (m + n) f) (λ h. sum_beyond x (m + n) (omega arith)) (refused_tells x m refl (sym e))
+    ⊎_elim (λ f. sum-none x (m + n) f) (λ h. sum_beyond x (m + n) (omega arith)) (refused_tells x m (sym e))
 
 pub laws : Laws
 laws =
     record {
       last-count = last-count;
-      count-within = count-within;
+      count-within = count_within;
       date_of_count = date_of_count;
       count_of_date = count_of_date;
       made_is_date = made_is_date;

@@ -1,7 +1,6 @@
 -- The lengths of months and years.
 use mathlib.Core.Path.{◌≡◌, refl, ap}
 use mathlib.Core.Bool.{Bool, true, false}
-use mathlib.Core.List.{List, [], ◌∷◌}
 use Prim.Native.Nat.{ℕ, suc, ◌+◌, ◌-◌, ◌*◌, ◌/◌, ◌<◌, ◌≤◌}
 use native.Mathlib.Omega.{arith}
 use borrow.Author.Tests.{leb-true, eqb-true}
@@ -32,27 +31,23 @@ months-suc y k h =
     (λ leap i. eqb (total (take (suc i) (month_lengths leap))) (total (take i (month_lengths leap)) + get_or (month_lengths leap) (suc i - 1) 0))
     refl refl (is_leap y) k h)
 
-pub months-most : (y k : ℕ) → k < 13 → days_of_months y k ≤ 31 * k
-months-most y k h =
+pub months_most : (y k : ℕ) → k < 13 → days_of_months y k ≤ 31 * k
+months_most y k h =
     leb-true _ _ (in_every_year 13 (λ leap i. leb (total (take i (month_lengths leap))) (31 * i)) refl refl (is_leap y) k h)
 
--- the days of the year before each month
-abbrev pub month_starts : Bool → List ℕ
-month_starts true = 0 ∷ 31 ∷ 60 ∷ 91 ∷ 121 ∷ 152 ∷ 182 ∷ 213 ∷ 244 ∷ 274 ∷ 305 ∷ 335 ∷ []
-month_starts false = 0 ∷ 31 ∷ 59 ∷ 90 ∷ 120 ∷ 151 ∷ 181 ∷ 212 ∷ 243 ∷ 273 ∷ 304 ∷ 334 ∷ []
+pub months_least : (y k : ℕ) → k < 12 → 31 * k ≤ days_of_months y (suc k)
+months_least y k h =
+    leb-true _ _ (in_every_year 12 (λ leap i. leb (31 * i) (total (take (suc i) (month_lengths leap)))) refl refl (is_leap y) k h)
 
-pub month-start : (leap : Bool) (k : ℕ) → k < 12 → get_or (month_starts leap) k 0 ≡ total (take k (month_lengths leap))
-month-start leap k h =
-    eqb-true _ _
-    (in_every_year 12 (λ b i. eqb (get_or (month_starts b) i 0) (total (take i (month_lengths b)))) refl refl leap k h)
+pub months_grow : (y m : ℕ) → 1 ≤ m → m ≤ 12 → days_of_months y (m - 1) ≤ days_of_months y m
+months_grow y m l h =
+    leb-true _ _
+    (in_every_year 13 (λ leap i. leb (total (take (i - 1) (month_lengths leap))) (total (take i (month_lengths leap)))) refl refl (is_leap y) m (omega arith))
 
 pub years_formula : (k : ℕ) → k < 201 → days_of_years k ≡ 365 * k + (k + 3) / 4 - (k + 99) / 100 + (k + 399) / 400
 unfolding days_of_years
 years_formula k h =
     eqb-true _ _ (at_each 201 (λ i. eqb (days_of_years i) (365 * i + (i + 3) / 4 - (i + 99) / 100 + (i + 399) / 400)) refl k h)
-
-pub years-most : (k : ℕ) → k < 201 → days_of_years k ≤ 366 * k
-years-most k h = omega (arith, years_formula k h)
 
 whole-year : (leap : Bool) → total (month_lengths leap) ≡ total (take 12 (month_lengths leap))
 whole-year true = refl

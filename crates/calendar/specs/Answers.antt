@@ -1,12 +1,8 @@
 -- What the entries answer: the number of document 01's table, 0 where accepted, and the value, 0 where refused.
-use Rattle.std.specs.Prelude.{cond, ◌&&◌, ℕ, ◌+◌, leb, ℤ, pos, ◌-ℤ◌}
+use Rattle.std.specs.Prelude.{cond, ◌&&◌, ℕ, ◌+◌, leb, ℤ, pos, ◌-ℤ◌, Result}
+use Rattle.answers.specs.Answers.{stated}
 use Rattle.calendar.specs.Calendar.{last_date, is_date, after, day_count}
-use Rattle.calendar.specs.declared.DayCount.{DayCount}
-use Rattle.calendar.specs.declared.DayCount.TheVariants.{Day, NoDate}
-use Rattle.calendar.specs.declared.DateSum.{DateSum}
-use Rattle.calendar.specs.declared.DateSum.TheVariants.{Date, Refused}
-use Rattle.calendar.specs.declared.DaysBetween.{DaysBetween}
-use Rattle.calendar.specs.declared.DaysBetween.TheVariants.{Days, NotDates}
+use Rattle.calendar.specs.declared.NotADate.{NotADate}
 
 -- 3, "date: not a date as above"
 abbrev pub date_number : ℕ
@@ -14,17 +10,12 @@ date_number = 3
 
 -- Number and value of each case
 
-abbrev pub count_stated : DayCount → ℕ × ℕ
-count_stated (Day n) = (0, n)
-count_stated NoDate = (date_number, 0)
+-- of a date, and of a count of days
+abbrev pub date_stated : Result ℕ NotADate → ℕ × ℕ
+date_stated = stated (λ _. date_number) 0
 
-abbrev pub sum_stated : DateSum → ℕ × ℕ
-sum_stated (Date x) = (0, x)
-sum_stated Refused = (date_number, 0)
-
-abbrev pub between_stated : DaysBetween → ℕ × ℤ
-between_stated (Days n) = (0, n)
-between_stated NotDates = (date_number, pos 0)
+abbrev pub between_stated : Result ℤ NotADate → ℕ × ℤ
+between_stated = stated (λ _. date_number) (pos 0)
 
 -- What is answered
 

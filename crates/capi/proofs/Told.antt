@@ -2,30 +2,31 @@
 use mathlib.Core.Path.{◌≡◌, refl, ap, ◌∙◌}
 use mathlib.Core.List.{List}
 use Prim.Native.Nat.{ℕ}
+use Rattle.std.specs.Prelude.{Result, Ok, Err}
+use Rattle.std.specs.Result.{result_unwrap_or}
+use Rattle.answers.specs.Answers.{number_in}
 use Rattle.book_model.specs.declared.Book.{Book}
-use Rattle.book_model.specs.Book.{empty_book}
 use Rattle.lines.specs.Lines.{line_start, line_end}
-use Rattle.file_model.specs.declared.LoadAnswer.{LoadAnswer}
-use Rattle.file_model.specs.declared.LoadAnswer.TheVariants as answer
-use Rattle.file_model.specs.Load.{Outcome, answered, line_named, part_start, part_end}
+use Rattle.file_model.specs.declared.LoadFault.{LoadFault}
+use Rattle.file_model.specs.Load.{Outcome, refusal_number, answered, line_named, part_start, part_end}
 
-answered-number : (a : LoadAnswer) (b : Book) → (answered a empty_book).number ≡ (answered a b).number
-answered-number (answer.Accepted count) b = refl
-answered-number (answer.Refused r line) b = refl
+answered-number : (a : Result ℕ LoadFault) (b : Book) → number_in (λ (fault : LoadFault). refusal_number fault.refusal) a ≡ (answered a b).number
+answered-number (Ok count) b = refl
+answered-number (Err fault) b = refl
 
-answered-count : (a : LoadAnswer) (b : Book) → (answered a empty_book).count ≡ (answered a b).count
-answered-count (answer.Accepted count) b = refl
-answered-count (answer.Refused r line) b = refl
+answered-count : (a : Result ℕ LoadFault) (b : Book) → result_unwrap_or a 0 ≡ (answered a b).count
+answered-count (Ok count) b = refl
+answered-count (Err fault) b = refl
 
-answered-line : (a : LoadAnswer) (b : Book) → line_named a ≡ (answered a b).line
-answered-line (answer.Accepted count) b = refl
-answered-line (answer.Refused r line) b = refl
+answered-line : (a : Result ℕ LoadFault) (b : Book) → line_named a ≡ (answered a b).line
+answered-line (Ok count) b = refl
+answered-line (Err fault) b = refl
 
-module _ (s : List ℕ) (a : LoadAnswer) (b : Book) (o : Outcome) (stated : answered a b ≡ o) where
-  pub number-told : (answered a empty_book).number ≡ o.number
+module _ (s : List ℕ) (a : Result ℕ LoadFault) (b : Book) (o : Outcome) (stated : answered a b ≡ o) where
+  pub number-told : number_in (λ (fault : LoadFault). refusal_number fault.refusal) a ≡ o.number
   number-told = answered-number a b ∙ ap (λ (x : Outcome). x.number) stated
 
-  pub count-told : (answered a empty_book).count ≡ o.count
+  pub count-told : result_unwrap_or a 0 ≡ o.count
   count-told = answered-count a b ∙ ap (λ (x : Outcome). x.count) stated
 
   pub line-told : line_named a ≡ o.line

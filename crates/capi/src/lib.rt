@@ -2,8 +2,6 @@
 // answers the number of document 01's table, 0 for accepted. The crate `capi_c` exports each under its name.
 #![tactic(auto)]
 
-mod values;
-
 ghost use Rattle.std.specs.Prelude.{◌≡◌};
 ghost use Rattle.book_model.specs.Book.{empty_book};
 ghost use Rattle.calendar.specs.Answers.{sum_of};
@@ -14,8 +12,8 @@ ghost use Rattle.file_model.specs.Load.{load_of};
 ghost use Rattle.rates.specs.Rate.{rate_of};
 ghost use Rattle.report.specs.Statement.{report_of};
 
-use crate::values::{bytes_in, count_in, date_in, fields_in, number_in, rate_in};
-use book::Book;
+use answers::number_of;
+use book::ReachedBook;
 use line::Fields;
 
 // Loads a file on the empty book: the refused line's number, where it starts and ends in the file, and the count of the lines before E.
@@ -32,26 +30,25 @@ pub fn taborumbra_check(
     ensures end_after { end.new ≡ line_end file.now (load_of empty_book file.now).line }
     ensures count_after { count.new ≡ (load_of empty_book file.now).count }
 {
-    let loaded = file::load(file, Book::empty());
-    let answer = loaded.answer;
+    let answer = file::load(file, ReachedBook::empty()).answer;
     let bounds = file::part_bounds(file, answer);
-    *line = answer.line();
+    *line = file::line_named(answer);
     *start = bounds.start;
     *end = bounds.end;
-    *count = count_in(answer);
-    number_in(answer)
+    *count = answer.unwrap_or(0);
+    number_of(answer)
 }
 
 // The statement of a file at a buffer's start, and its length; a refused file's is its X line, answered with 0 too. A buffer under
-// `Reported::BYTES` is answered with 21 and left as it was.
+// `report::BYTES` is answered with 21 and left as it was.
 pub fn taborumbra_statement(file: &[u8], out: &mut [u8], length: &mut usize) -> u32
     ensures value { result ≡ (report_of file.now out.old).0.0 }
     ensures length_after { length.new ≡ (report_of file.now out.old).0.1 }
     ensures out_after { out.new ≡ (report_of file.now out.old).1 }
 {
-    let reported = report::report(file, out);
-    *length = bytes_in(reported);
-    reported.number()
+    let printed = report::report(file, out);
+    *length = printed.unwrap_or(0);
+    number_of(printed)
 }
 
 // A line's fields, 0 in each for a malformed line.
@@ -71,13 +68,19 @@ pub fn taborumbra_read_line(
     ensures third_after { third.new ≡ (line_of line.now).1.third }
 {
     let read = line::read_line(line);
-    let f = fields_in(read);
+    let f = read.unwrap_or(Fields {
+        letter: 0,
+        date: 0,
+        first: 0,
+        second: 0,
+        third: 0,
+    });
     *letter = f.letter;
     *date = f.date;
     *first = f.first;
     *second = f.second;
     *third = f.third;
-    read.number()
+    number_of(read)
 }
 
 // The line for given fields in a buffer's first 43 bytes. A refusal leaves the buffer as it was.
@@ -102,7 +105,7 @@ pub fn taborumbra_write_line(
             third,
         },
     );
-    written.number()
+    number_of(written)
 }
 
 // The daily rate of an annual rate, 0 for a refused one.
@@ -111,8 +114,8 @@ pub fn taborumbra_daily_rate(annual: u64, daily: &mut u64) -> u32
     ensures daily_after { daily.new ≡ (rate_of annual).1 }
 {
     let rate = rates::daily_rate(annual);
-    *daily = rate_in(rate);
-    rate.number()
+    *daily = rate.unwrap_or(0);
+    number_of(rate)
 }
 
 // A date plus days, 0 for a refused sum.
@@ -121,6 +124,6 @@ pub fn taborumbra_plus_days(date: u32, days: u32, sum: &mut u32) -> u32
     ensures sum_after { sum.new ≡ (sum_of date days).1 }
 {
     let added = calendar::plus_days(date, days);
-    *sum = date_in(added);
-    added.number()
+    *sum = added.unwrap_or(0);
+    number_of(added)
 }

@@ -1,4 +1,4 @@
-// The functions of `capi` for C programs, each under its name and with its clauses.
+// The functions of `capi` for C programs, each under its name and with its clauses: a static library is no library, so each stands in both.
 #![tactic(auto)]
 
 ghost use Rattle.std.specs.Prelude.{◌≡◌};
@@ -30,7 +30,7 @@ pub extern "C" fn taborumbra_check(
 }
 
 // The statement of a file at a buffer's start, and its length; a refused file's is its X line, answered with 0 too. A buffer under
-// `Reported::BYTES` is answered with 21 and left as it was.
+// `report::BYTES` is answered with 21 and left as it was.
 #[unsafe(no_mangle)]
 pub extern "C" fn taborumbra_statement(file: &[u8], out: &mut [u8], length: &mut usize) -> u32
     ensures value { result ≡ (report_of file.now out.old).0.0 }

@@ -1,5 +1,6 @@
 -- Digests of numbers and of bytes.
-use Rattle.std.specs.Prelude.{List, [], ◌∷◌, ℕ, ◌+◌, ◌*◌, ◌%◌, length}
+use Rattle.std.specs.Prelude.{List, ℕ, ◌+◌, ◌*◌, ◌%◌, length}
+use Rattle.std.specs.List.{fold}
 
 -- the greatest prime below 2^32
 abbrev pub modulus : ℕ
@@ -9,11 +10,6 @@ modulus = 4294967291
 unfoldable pub mixed_of : ℕ → ℕ → ℕ
 mixed_of h value = (h * 31 + value) % modulus
 
--- the digest h with each number in order
-unfoldable pub mixed_all : ℕ → List ℕ → ℕ
-mixed_all h [] = h
-mixed_all h (b ∷ l) = mixed_all (mixed_of h b) l
-
 -- the count of the bytes, and each byte in order
-unfoldable pub digest_of : List ℕ → ℕ
-digest_of l = mixed_all (length l % modulus) l
+abbrev pub digest_of : List ℕ → ℕ
+digest_of l = fold mixed_of (length l % modulus) l

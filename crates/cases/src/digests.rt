@@ -6,6 +6,7 @@ ghost use Rattle.cases.specs.Digests.{mixed_of, digest_of};
 const MODULUS: u64 = 4294967291;
 
 // A digest with one number more. Both are reduced first, so that nothing wraps.
+#[tactic(auto, unfolding(crate::specs::Digests::mixed_of))]
 pub fn mixed(h: u64, value: u64) -> u64
     ensures { result ≡ mixed_of h value }
 {
@@ -16,11 +17,6 @@ pub fn mixed(h: u64, value: u64) -> u64
 pub fn digest(bytes: &[u8]) -> u64
     ensures { result ≡ digest_of bytes.now }
 {
-    let mut h = bytes.len() as u64 % MODULUS;
-    let mut i: usize = 0;
-    while i < bytes.len() {
-        h = mixed(h, bytes[i] as u64);
-        i += 1;
-    }
-    h
+    let count = bytes.len() as u64 % MODULUS;
+    bytes.iter().fold(count, |h, &byte| mixed(h, byte.into()))
 }

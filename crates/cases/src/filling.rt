@@ -6,9 +6,7 @@ ghost use Rattle.cases.specs.Filled.{filled};
 pub fn fill(buffer: &mut [u8])
     ensures { buffer.new ≡ filled (length buffer.old) }
 {
-    let mut i: usize = 0;
-    while i < buffer.len() {
-        buffer[i] = 35 + (i % 90) as u8;
-        i += 1;
+    for (i, byte) in buffer.iter_mut().enumerate() {
+        *byte = 35 + (i % 90) as u8;
     }
 }

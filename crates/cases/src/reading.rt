@@ -1,89 +1,102 @@
 // Decimal numbers in a text, and the bytes of a case, whose number stands before them.
-ghost use Rattle.std.specs.Prelude.{◌≡◌, ◌+◌, ◌*◌, ◌≤◌, min, length, drop};
-ghost use Rattle.cases.specs.Cases.{greatest, is_digit, skipped, number_at, bytes_at};
+ghost use Rattle.std.specs.Prelude.{◌≡◌, ◌+◌, ◌-◌, ◌*◌, ◌%◌, min, ◌≤◌, ◌<◌, length, drop, IfOk};
+ghost use Rattle.std.specs.Io.KnownBytes.{Consumes, IsAtEnd};
+ghost use Rattle.std.specs.List.{fold};
+ghost use Rattle.cases.specs.Cases.{greatest, skipped, digits, number_at, bytes_at, bytes_between};
 
-use crate::{Bytes, Number};
+use input::read_full;
+use std::io;
+use std::io::Read;
 
-// The greatest u64.
-const GREATEST: u64 = 18446744073709551615;
-
-#[tactic(auto, unfolding(crate::specs::Cases::is_digit))]
-fn is_digit(byte: u8) -> bool
-    ensures { result ≡ is_digit byte }
-{
-    if byte < 48 {
-        return false;
-    }
-    byte <= 57
+// A reader of the cases in a text, and the position where it stands.
+#[derive(Drop)]
+pub struct Cases<'a> {
+    pub text: &'a [u8],
+    pub at: usize,
 }
 
-// The position of the first digit from a position on, or the end.
-fn first_digit(s: &[u8], at: usize) -> usize
-    ensures { result ≡ at + skipped (drop at s.now) }
+// What a text has from a position on.
+fn from(text: &[u8], at: usize) -> &[u8]
+    ensures { result.now ≡ drop at text.now }
 {
-    let mut i = at;
-    while i < s.len() {
-        if is_digit(s[i]) {
-            return i;
-        }
-        i += 1;
-    }
-    i
+    text.get(at..).unwrap_or(&[])
 }
 
-// A number with one more digit, no greater than GREATEST.
-fn with_digit(value: u64, digit: u64) -> u64
-    requires { digit ≤ 9 }
-    ensures { result ≡ min (value * 10 + digit) greatest }
+// How many bytes stand before the first digit.
+fn skipped(text: &[u8]) -> usize
+    ensures value { result ≡ skipped text.now }
+    ensures within { result ≤ length text.now }
 {
-    if (GREATEST - digit) / 10 < value {
-        return GREATEST;
-    }
-    value * 10 + digit
+    text.iter()
+        .take_while(|byte| !byte.is_ascii_digit())
+        .count()
 }
 
-// The first number from a position on.
-pub fn number_at(s: &[u8], at: usize) -> Number
-    ensures { result ≡ number_at s.now at }
+// How many digits stand in front.
+fn digits(text: &[u8]) -> usize
+    ensures value { result ≡ digits text.now }
+    ensures within { result ≤ length text.now }
 {
-    let mut i = first_digit(s, at);
-    let mut value: u64 = 0;
-    while i < s.len() {
-        let byte = s[i];
-        if !is_digit(byte) {
-            return Number {
-                value: value,
-                next: i,
-            };
-        }
-        value = with_digit(value, (byte - 48) as u64);
-        i += 1;
-    }
-    Number {
-        value: value,
-        next: i,
-    }
+    text.iter().take_while(|byte| byte.is_ascii_digit()).count()
 }
 
-// The bytes of a case: the first number from a position on says how many follow the byte behind it. The text's end cuts them off.
-pub fn bytes_at(text: &[u8], at: usize) -> Bytes
-    ensures value { result ≡ bytes_at text.now at }
-    ensures within { (result.start ≤ result.end) × (result.end ≤ length text.now) }
+// The number that a text's bytes write, if each is a digit: the greatest u64 where it is larger.
+fn decimal(digits: &[u8]) -> u64
+    ensures { result ≡ min (fold (λ v b. v * 10 + (b - 48)) 0 digits.now) greatest }
 {
-    let count = number_at(text, at);
-    let size = text.len();
-    if size <= count.next {
-        return Bytes {
-            start: size,
-            end: size,
-        };
+    digits.iter().fold(
+        0,
+        |value: u64, digit| value
+            .saturating_mul(10)
+            .saturating_add(digit.saturating_sub(b'0').into()),
+    )
+}
+
+impl<'a> Cases<'a> {
+    // The cases that an input has, or the first that the buffer has room for.
+    pub fn read<R: Read>(input: &mut R, buffer: &'a mut [u8]) -> io::Result<Cases<'a>>
+        ensures start { IfOk result (λ cases. cases.at ≡ 0) }
+        ensures bytes { IfOk result (λ cases. Consumes (R.remaining input.old) (R.remaining input.new) cases.text.now) }
+        ensures end { IfOk result (λ cases. length cases.text.now < length buffer.old → IsAtEnd (R.remaining input.new)) }
+    {
+        let (text, outcome) = read_full(input, buffer);
+        outcome?;
+        Ok(Cases { text, at: 0 })
     }
-    let start = count.next + 1;
-    if ((size - start) as u64) < count.value {
-        return Bytes { start, end: size };
+
+    // The first number from here on: the greatest u64 where it is larger.
+    pub fn number(&mut self) -> u64
+        ensures value { (result, self.new.at) ≡ number_at self.old.text.now self.old.at }
+        ensures text { self.new.text ≡ self.old.text }
+    {
+        let rest = from(self.text, self.at);
+        let skipped = skipped(rest);
+        let number = from(rest, skipped);
+        let digits = digits(number);
+        self.at += skipped + digits;
+        decimal(&number[..digits])
     }
-    Bytes {
-        start,
-        end: start + count.value as usize,
+
+    // That number, modulo 2^32.
+    pub fn number_u32(&mut self) -> u32
+        ensures value { result ≡ (number_at self.old.text.now self.old.at).0 % 4294967296 }
+        ensures at { self.new.at ≡ (number_at self.old.text.now self.old.at).1 }
+        ensures text { self.new.text ≡ self.old.text }
+    {
+        (self.number() % 4294967296) as u32
+    }
+
+    // The bytes of a case: the first number from here on says how many follow the byte behind it. The text's end cuts them off.
+    pub fn bytes(&mut self) -> &'a [u8]
+        ensures value { result.now ≡ bytes_between self.old.text.now (bytes_at self.old.text.now self.old.at) }
+        ensures at { self.new.at ≡ (bytes_at self.old.text.now self.old.at).1 }
+        ensures text { self.new.text ≡ self.old.text }
+    {
+        let text = self.text;
+        let count = self.number() as usize;
+        let start = self.at.saturating_add(1).min(text.len());
+        let end = start.saturating_add(count).min(text.len());
+        self.at = end;
+        &text[start..end]
     }
 }

@@ -2,6 +2,7 @@
 use Rattle.std.specs.Prelude.{ℕ, ◌+◌, ◌*◌, ◌≡◌, true, cond, List, [], ◌∷◌, map}
 use Rattle.general_laws.specs.Sums.{sum_below, total}
 use Rattle.book_model.specs.declared.Book.{Book}
+use Rattle.book_model.specs.declared.called.ReachedBook.{ReachedBook}
 use Rattle.book_model.specs.Book.{empty_book, held}
 use Rattle.book_model.specs.Call.{Opening, Call, Advance, Rate, Transfer, Settle}
 use Rattle.book_model.specs.Calls.{opened_with, book_after, accepts, run}
@@ -71,3 +72,7 @@ pub record History (b : Book) : Type 0 where
 
 abbrev pub ReachedConserved : Type 0
 ReachedConserved = (b : Book) → Reached b → b.opened ≡ true → History b
+
+-- the same of a book whose type says that it is reached
+abbrev pub ReachedBookConserved : Type 0
+ReachedBookConserved = (b : ReachedBook) → b.book.opened ≡ true → ∥ History b.book ∥₁

@@ -8,11 +8,13 @@ use Rattle.account.specs.declared.Account.{Account}
 use Rattle.book_model.specs.declared.Book.{Book}
 use Rattle.book_model.specs.declared.Position.{Position}
 use Rattle.book_model.specs.declared.Refusal.TheVariants as refusal
+use Rattle.book_model.specs.declared.Revised.{Revised}
+use Rattle.book_model.specs.declared.Taken.{Taken}
 use Rattle.book_model.specs.Advance.{advanced}
 use Rattle.book_model.specs.Book.{held}
 use Rattle.book_model.specs.Call.{Call, Advance, Transfer, Settle}
 use Rattle.book_model.specs.Calls.{run}
-use Rattle.book_model.specs.Outcome.{Answer, Taken, Changes, no_days, nothing_taken, no_changes, answered, declined}
+use Rattle.book_model.specs.Outcome.{Answer, no_days, nothing_taken, no_changes, answered, declined}
 use Rattle.book_model.specs.Positions.{receipts}
 use Rattle.book_model.specs.Rate.{rated}
 use Rattle.book_model.specs.Read.{totals_of}
@@ -56,10 +58,10 @@ abbrev pub taken : ℕ → ℕ → Answer Taken
 taken interest principal = answered (record { interest = record { 0 = interest }; principal = record { 0 = principal } })
 
 -- what "rate 0 from day 0" answers of a book: the changes of outstanding and due
-abbrev pub changes_at0 : Book → Answer Changes
+abbrev pub changes_at0 : Book → Answer Revised
 changes_at0 b = (rated b 20140101 0).answer
 
-abbrev pub changes : ℤ → ℤ → Answer Changes
+abbrev pub changes : ℤ → ℤ → Answer Revised
 changes outstanding due = answered (record { outstanding = record { 0 = outstanding }; due = record { 0 = due } })
 
 -- the file of the paper's example: O 20140101 30 2000 100 with holder 1, then D 20140111, T 1 2 500000, D 20140131, S 100

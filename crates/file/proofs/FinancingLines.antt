@@ -1,109 +1,134 @@
--- The F lines of an opening, one at a position of the file: what each does to the load, and what holds of the lists gathered so far.
-use Prim.Native.Nat.{ℕ, ◌+◌, ◌≤◌, ◌<◌}
-use native.Mathlib.Omega.{arith}
+-- The F lines of an opening: what each does to the load, and what holds of the lists gathered so far.
+use Rattle.std.proofs.Common.{arith, ℕ, ◌≡◌, ◌+◌, ◌≤◌, ◌<◌, refl, sym, ap, ◌∙◌, List, [], ◌∷◌, ◌++◌, Result, Ok, Err, length, get_or, take, drop, set}
 use native.Mathlib.Numerals.{add-one}
-use mathlib.Core.Path.{◌≡◌, ◌∙◌}
-use mathlib.Core.List.{List, [], ◌∷◌, ◌++◌}
-use lib.ListN.{length, get_or, take, drop, set, length-set}
+use lib.ListN.{length-set, get_or-eq_default}
 use lib.Seq.{take-suc-set, length-take-le}
 use borrow.Author.Tests.{le-leb, lt-leb}
+use Rattle.general_laws.proofs.Choice.{by_order}
 use Rattle.book_model.specs.declared.Book.{Book}
 use Rattle.book_model.specs.declared.Refusal.TheVariants as book-refusal
 use Rattle.line.specs.declared.Fields.{Fields}
-use Rattle.line.specs.declared.ReadAnswer.TheVariants as read_answer
 use Rattle.line.specs.Line.{read_stated, line_of}
 use Rattle.lines.specs.Lines.{lines, line_at, end_of}
-use Rattle.lines.proofs.Callers.{first_byte, end-past, end-within}
+use Rattle.lines.proofs.Callers.{first_byte}
+use Rattle.file_model.specs.declared.LoadFault.{LoadFault}
 use Rattle.file_model.specs.declared.LoadRefusal.TheVariants as refusal
 use Rattle.file_model.specs.Order.{Finance, order_of, order_in}
-use Rattle.file_model.specs.Load.{Outcome, Waits, refused, opening_with, load_from}
+use Rattle.file_model.specs.Load.{Outcome, Waits, refused, opening_with}
 use Rattle.file_model.proofs.Callers.{order-read, order-malformed, letter-first}
-use Rattle.file.specs.declared.turning.Next.{Next}
-use Rattle.file.specs.Turns.{saturated, gathered, Gathers}
-use Rattle.file.proofs.LoadSteps.{load-financing}
+use Rattle.file.specs.declared.reading.Lines.{Lines}
+use Rattle.file.specs.declared.financing.Financing.{Financing}
+use Rattle.file.specs.Reading.{ReadAs}
+use Rattle.file.specs.Turns.{saturated, left, gathered, Gathers, Moves}
+use Rattle.file.proofs.LinesLeft.{Read, read-moves, left_behind, moves_on}
+use Rattle.file.proofs.LoadSteps.{load-financing, load-opens}
 use Rattle.file.proofs.Saturation.{alike_last, load_alike}
+
+-- what a reader has left where an opening waits
+abbrev pub waiting_left : (before b : Book) (line first term annual cents : ℕ) (hs ss : List ℕ) → Lines → Outcome
+waiting_left before b line first term annual cents hs ss l = left before b (Waits line (opening_with first term annual cents hs ss)) l
 
 -- One line
 
--- a well-formed line that begins with F orders a holder
-order-financing : (s : List ℕ) (at : ℕ) (f : Fields) → at < length s → get_or s at 0 ≡ 70
-    → read_stated (read_answer.Read f) ≡ line_of (line_at s at) → order_in (line_at s at) ≡ Finance f.first f.third
-unfolding order_of
-order-financing s at f more is_f e =
-    let letter : f.letter ≡ 70 = letter-first f (line_at s at) e ∙ first_byte s at more ∙ is_f in
-    order-read f (line_at s at) e ∙ rw letter
+module _ {old new : Lines} (r : Read old new) (is_f : get_or old.reader.file.now old.reader.at 0 ≡ 70) (before b : Book) (line first term annual cents : ℕ) (hs ss : List ℕ) where
+  abbrev s : List ℕ
+  s = old.reader.file.now
 
--- what the file does from a position on, where an opening waits
-abbrev pub load_at : List ℕ → (before b : Book) (line first term annual cents : ℕ) (hs ss : List ℕ) (n at : ℕ) → Outcome
-load_at s before b line first term annual cents hs ss n at =
-    load_from before b (Waits line (opening_with first term annual cents hs ss)) n (lines (drop at s))
+  abbrev at : ℕ
+  at = old.reader.at
 
-module _ (s : List ℕ) (at n : ℕ) (hs ss : List ℕ) (more : at < length s) (is_f : get_or s at 0 ≡ 70) where
-  pub financing-malformed : read_stated read_answer.Malformed ≡ line_of (line_at s at) → (before b : Book) (line first term annual cents : ℕ)
-      → load_at s before b line first term annual cents hs ss n at ≡ refused before (n + 1) refusal.Line
-  financing-malformed e before b line first term annual cents =
-      load-financing s at n before b line _ more is_f ∙ rw (order-malformed (line_at s at) e)
+  pub financing-malformed : read_stated (Err (record {})) ≡ line_of (line_at s at)
+      → waiting_left before b line first term annual cents hs ss old ≡ refused before new.read refusal.Line
+  financing-malformed e =
+      load-financing s at old.read before b line _ r.more is_f ∙ rw (order-malformed (line_at s at) e, r.counted) refl
 
-  module _ (f : Fields) (e : read_stated (read_answer.Read f) ≡ line_of (line_at s at)) where
-    pub financing-full : 64 ≤ length hs → (before b : Book) (line first term annual cents : ℕ)
-        → load_at s before b line first term annual cents hs ss n at ≡ refused before (n + 1) (refusal.Call book-refusal.Financing)
-    financing-full full before b line first term annual cents =
-        load-financing s at n before b line _ more is_f ∙ rw (order-financing s at f more is_f e, le-leb 64 (length hs) full)
+  module _ (f : Fields) (e : read_stated (Ok f) ≡ line_of (line_at s at)) where
+    -- a well-formed line that begins with F orders a holder
+    order-financing : order_in (line_at s at) ≡ Finance f.first f.third
+    unfolding order_of
+    order-financing =
+        let letter : f.letter ≡ 70 = letter-first f (line_at s at) e ∙ first_byte s at r.more ∙ is_f in
+        order-read f (line_at s at) e ∙ rw letter
 
-    pub financing-read : length hs < 64 → (before b : Book) (line first term annual cents : ℕ)
-        → load_at s before b line first term annual cents hs ss n at
-        ≡ load_at s before b line first term annual cents (hs ++ (f.first ∷ [])) (ss ++ (saturated f.third ∷ [])) (n + 1) (end_of s at)
-    financing-read room before b line first term annual cents =
-        load-financing s at n before b line _ more is_f
-        ∙ rw (order-financing s at f more is_f e, lt-leb 64 (length hs) room)
-        (load_alike b first term annual cents before line (hs ++ (f.first ∷ [])) _ _ (alike_last ss f.third) (n + 1) (lines (drop (end_of s at) s)))
+    pub financing-full : 64 ≤ length hs
+        → waiting_left before b line first term annual cents hs ss old ≡ refused before new.read (refusal.Call book-refusal.Financing)
+    financing-full full =
+        load-financing s at old.read before b line _ r.more is_f ∙ rw (order-financing, le-leb 64 (length hs) full, r.counted) refl
 
--- The lists so far: with the first `count` places of both, the load from here on is the one that was asked
+    pub financing-read : length hs < 64
+        → waiting_left before b line first term annual cents hs ss old
+        ≡ waiting_left before b line first term annual cents (hs ++ (f.first ∷ [])) (ss ++ (saturated f.third ∷ [])) new
+    financing-read room =
+        load-financing s at old.read before b line _ r.more is_f
+        ∙ rw (order-financing, lt-leb 64 (length hs) room)
+        (load_alike b first term annual cents before line (hs ++ (f.first ∷ [])) _ _ (alike_last ss f.third) (old.read + 1) (lines (drop (end_of s at) s)))
+        ∙ left_behind r before b _
 
-pub record Gathering (s : List ℕ) (start before : ℕ) (holders shares : List ℕ) (count at n : ℕ) : Type 0 where
-  pub same : (kept b : Book) (line first term annual cents : ℕ)
-      → load_at s kept b line first term annual cents [] [] before start
-      ≡ load_at s kept b line first term annual cents (take count holders) (take count shares) n at
-  pub ahead : start ≤ at
-  pub within : at ≤ length s
-  pub counted : n ≤ at
-  pub few : count ≤ 64
-  pub holders-full : length holders ≡ 64
-  pub shares-full : length shares ≡ 64
+-- The lists so far: with the first `count` places of both, what is left is what was asked
 
-module _ (s : List ℕ) (start before : ℕ) (holders shares : List ℕ) (count at n : ℕ) (g : Gathering s start before holders shares count at n) where
-  -- one holder more
-  pub gathering_goes_on : (f : Fields) → at < length s → get_or s at 0 ≡ 70 → read_stated (read_answer.Read f) ≡ line_of (line_at s at) → count < 64
-      → Gathering s start before (set holders count f.first) (set shares count (saturated f.third)) (count + 1) (end_of s at) (n + 1)
-  gathering_goes_on f more is_f e room =
-      let past = end-past s at more in
+pub record Gathering (first now : Lines) (g : Financing) : Type 0 where
+  pub same : (before b : Book) (line first-day term annual cents : ℕ)
+      → waiting_left before b line first-day term annual cents [] [] first
+      ≡ waiting_left before b line first-day term annual cents (take g.count g.holders) (take g.count g.shares) now
+  pub moves : Moves first now
+  pub few : g.count ≤ 64
+  pub holders-full : length g.holders ≡ 64
+  pub shares-full : length g.shares ≡ 64
+
+-- nothing but F begins with that byte, and it is there
+pub byte_there : (s : List ℕ) (at : ℕ) → get_or s at 0 ≡ 70 → at < length s
+byte_there s at e = by_order at (length s) (λ h. h) (λ h. absurd (omega (arith, get_or-eq_default s 0 h)))
+
+-- one holder more
+pub gathering_goes_on : {first old new : Lines} {g : Financing} → Gathering first old g → Read old new → get_or old.reader.file.now old.reader.at 0 ≡ 70
+    → (f : Fields) → read_stated (Ok f) ≡ line_of (line_at old.reader.file.now old.reader.at) → g.count < 64
+    → Gathering first new (record { holders = set g.holders g.count f.first; shares = set g.shares g.count (saturated f.third); count = g.count + 1 })
+gathering_goes_on {g = g} so_far r is_f f e room =
+    record {
+      same = λ before b line first-day term annual cents.
+          so_far.same before b line first-day term annual cents
+          ∙ financing-read r is_f before b line first-day term annual cents (take g.count g.holders) (take g.count g.shares) f e
+          (omega (arith, length-take-le g.count g.holders (omega (arith, so_far.holders-full, room))))
+          ∙ rw (
+            add-one g.count,
+            take-suc-set g.holders g.count f.first (omega (arith, so_far.holders-full, room)),
+            take-suc-set g.shares g.count (saturated f.third) (omega (arith, so_far.shares-full, room)),
+          );
+      moves = moves_on so_far.moves (read-moves r);
+      few = omega (arith, room);
+      holders-full = length-set g.holders g.count f.first ∙ so_far.holders-full;
+      shares-full = length-set g.shares g.count (saturated f.third) ∙ so_far.shares-full;
+    }
+
+module _ {first old : Lines} {g : Financing} (so_far : Gathering first old g) where
+  module _ {new : Lines} (r : Read old new) (is_f : get_or old.reader.file.now old.reader.at 0 ≡ 70) where
+    pub gathering-malformed : {fault : LoadFault} → ReadAs new.read (line_at old.reader.file.now old.reader.at) (Err fault)
+        → (answer : Result Financing LoadFault) → answer ≡ Err fault → Gathers first new answer
+    gathering-malformed read answer is =
+        record {
+          same = λ before b line first-day term annual cents.
+              so_far.same before b line first-day term annual cents
+              ∙ financing-malformed r is_f before b line first-day term annual cents _ _ read.0
+              ∙ ap (λ (x : LoadFault). refused before x.line x.refusal) (sym read.1)
+              ∙ ap (gathered before b line first-day term annual cents new) (sym is);
+        }
+
+    pub gathering-full : (f : Fields) → read_stated (Ok f) ≡ line_of (line_at old.reader.file.now old.reader.at) → g.count ≡ 64
+        → (fault : LoadFault) → (fault.refusal ≡ refusal.Call book-refusal.Financing) × (fault.line ≡ new.read) → Gathers first new (Err fault)
+    gathering-full f e full fault is =
+        let most = length-take-le g.count g.holders (omega (arith, full, so_far.holders-full)) in
+        record {
+          same = λ before b line first-day term annual cents.
+              so_far.same before b line first-day term annual cents
+              ∙ financing-full r is_f before b line first-day term annual cents _ _ f e (omega (arith, full, most))
+              ∙ ap (λ (x : ℕ). refused before x (refusal.Call book-refusal.Financing)) (sym is.1)
+              ∙ ap (refused before fault.line) (sym is.0);
+        }
+
+  pub gathering-ends : (get_or old.reader.file.now old.reader.at 0 ≡ 70 → ⊥) → Gathers first old (Ok g)
+  gathering-ends other =
       record {
-        same = λ kept b line first term annual cents.
-            g.same kept b line first term annual cents
-            ∙ financing-read s at n (take count holders) (take count shares) more is_f f e (omega (arith, length-take-le count holders (omega arith)))
-            kept b line first term annual cents
-            ∙ rw (add-one count, take-suc-set holders count f.first (omega arith), take-suc-set shares count (saturated f.third) (omega arith));
-        ahead = omega arith;
-        within = end-within s at (omega arith);
-        counted = omega arith;
-        few = omega arith;
-        holders-full = length-set holders count f.first ∙ g.holders-full;
-        shares-full = length-set shares count (saturated f.third) ∙ g.shares-full;
-      }
-
-  -- and none_left more
-  pub gathering_stops : (x : Next)
-      → ((kept b : Book) (line first term annual cents : ℕ)
-      → load_at s kept b line first term annual cents (take count holders) (take count shares) n at
-      ≡ gathered s kept b line first term annual cents (record { next = x; holders = holders; shares = shares; count = count; at = at; lines = n }))
-      → Gathers s start before (record { next = x; holders = holders; shares = shares; count = count; at = at; lines = n })
-  gathering_stops x rest =
-      record {
-        same = λ kept b line first term annual cents. g.same kept b line first term annual cents ∙ rest kept b line first term annual cents;
-        ahead = g.ahead;
-        within = g.within;
-        counted = g.counted;
-        few = g.few;
-        holders-full = g.holders-full;
-        shares-full = g.shares-full;
+        same = λ before b line first-day term annual cents.
+            so_far.same before b line first-day term annual cents
+            ∙ load-opens old.reader.file.now old.reader.at old.read before b _ (λ _. other);
       }

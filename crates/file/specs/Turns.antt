@@ -1,90 +1,66 @@
 -- What the parts of the load do. Private contracts alone cite this: nobody has to believe it.
-use Rattle.std.specs.Prelude.{ℕ, ◌+◌, ◌≤◌, ◌≡◌, Bool, cond, List, [], ltb, eqb, length, take, drop}
+use Rattle.std.specs.Prelude.{ℕ, ◌-◌, ◌≤◌, ◌≡◌, Result, Ok, Err, Bool, cond, [], ltb, take, drop}
 use Rattle.book_model.specs.declared.Book.{Book}
-use Rattle.book_model.specs.Call.{Call}
-use Rattle.book_model.specs.Calls.{book_after, number_of}
-use Rattle.book_model.specs.Reached.{Reached}
+use Rattle.book_model.specs.declared.Refusal.{Refusal}
+use Rattle.line.specs.declared.Fields.{Fields}
 use Rattle.lines.specs.Lines.{lines}
-use Rattle.file_model.specs.declared.LoadAnswer.{LoadAnswer}
-use Rattle.file_model.specs.declared.LoadAnswer.TheVariants as answer
-use Rattle.file_model.specs.Order.{Order, Open, Finance, Later, End, Malformed}
-use Rattle.file_model.specs.Load.{Outcome, Waiting, None, Waits, accepted, refused, opening_with, ended, after_call, after_open, after_line, load_from}
-use Rattle.file.specs.declared.turning.Next.{Next}
-use Rattle.file.specs.declared.turning.Next.TheVariants as next
-use Rattle.file.specs.declared.turning.Turn.{Turn}
+use Rattle.file_model.specs.declared.LoadFault.{LoadFault}
+use Rattle.file_model.specs.declared.LoadRefusal.TheVariants as refusal
+use Rattle.file_model.specs.Order.{order_of}
+use Rattle.file_model.specs.Load.{Outcome, Waiting, None, Waits, accepted, refused, opening_with, ended, after_open, after_line, load_from}
+use Rattle.file.specs.declared.reading.Lines.{Lines}
 use Rattle.file.specs.declared.financing.Financing.{Financing}
 
 -- a share as 32 bits hold it: the greatest for all beyond, which Open refuses just the same
 abbrev pub saturated : ℕ → ℕ
 saturated n = cond (ltb 4294967295 n) 4294967295 n
 
+-- a call's answer, as that of the line which made it
+abbrev pub by_line : {A : Type 0} → (line : ℕ) → Result A Refusal → Result (Unit {0}) LoadFault
+by_line line (Ok value) = Ok tt
+by_line line (Err r) = Err (record { refusal = refusal.Call r; line = line })
+
 -- How the load goes on
 
--- a load that stops with an answer: an accepted one keeps the book that it came to
-abbrev pub stopped : Book → LoadAnswer → Book → Outcome
-stopped before (answer.Accepted count) b = accepted count b
-stopped before (answer.Refused r line) b = refused before line r
+-- what a reader has left of its file
+abbrev pub left : (before b : Book) → Waiting → Lines → Outcome
+left before b waiting l = load_from before b waiting l.read (lines (drop l.reader.at l.reader.file.now))
 
--- an E line, as an answer
-abbrev pub Ends : (n count : ℕ) → Bool → LoadAnswer → Type 0
-Ends n count last r = (before b : Book) → stopped before r b ≡ ended before b n count last
+-- with a book, or stopped at a fault
+abbrev pub goes_on : (before : Book) → (Book → Outcome) → Book → Result (Unit {0}) LoadFault → Outcome
+goes_on before rest b (Ok x) = rest b
+goes_on before rest b (Err fault) = refused before fault.line fault.refusal
 
--- after a turn: on with its book, or stopped
-abbrev pub went_on : (before : Book) → (Book → Outcome) → Book → Next → Outcome
-went_on before rest b next.On = rest b
-went_on before rest b (next.Stop a) = stopped before a b
+-- a load that stops: an accepted one keeps the book that it came to
+abbrev pub stopped : (before : Book) → Result ℕ LoadFault → Book → Outcome
+stopped before (Ok count) b = accepted count b
+stopped before (Err fault) b = refused before fault.line fault.refusal
 
--- what is left of file s after a turn
-abbrev pub continued : List ℕ → (before : Book) → Turn → Outcome
-continued s before t = went_on before (λ b. load_from before b None t.lines (lines (drop t.at s))) t.book t.next
+-- an E line behind n lines
+pub record Ends (n count : ℕ) (last : Bool) (answer : Result ℕ LoadFault) : Type 0 where
+  pub same : (before b : Book) → stopped before answer b ≡ ended before b n count last
 
--- a turn makes a call by line n, which ends at a position
-pub record Calls (b : Book) (k : Call) (at n : ℕ) (t : Turn) : Type 0 where
-  pub same : (before : Book) (rest : Book → Outcome) → after_call before n (number_of b k) (book_after b k) rest ≡ went_on before rest t.book t.next
-  pub reached : Reached t.book
-  pub end : t.at ≡ at
-  pub counted : t.lines ≡ n
+-- the reader moves on in its file
+pub record Moves (old new : Lines) : Type 0 where
+  pub same-file : new.reader.file ≡ old.reader.file
+  pub ahead : old.reader.at ≤ new.reader.at
 
--- an order that is no call behind the opening
-abbrev pub NoCall : Order → Type 0
-NoCall (Open first term annual cents) = Unit {0}
-NoCall (Finance h s) = Unit {0}
-NoCall (Later k) = ⊥
-NoCall (End count) = Unit {0}
-NoCall Malformed = Unit {0}
+-- what is left behind the F lines of an opening, whose holders and shares were gathered
+abbrev pub gathered : (before b : Book) → (line first term annual cents : ℕ) → Lines → Result Financing LoadFault → Outcome
+gathered before b line first term annual cents l (Ok g) =
+    after_open before b (Waits line (opening_with first term annual cents (take g.count g.holders) (take g.count g.shares))) (λ opened. left before opened None l)
+gathered before b line first term annual cents l (Err fault) = refused before fault.line fault.refusal
 
--- a turn does what a line behind n lines does, which ends at a position, where no opening waits
-pub record Continues (s : List ℕ) (b : Book) (order : Order) (at n : ℕ) (t : Turn) : Type 0 where
-  pub same : (before : Book) → after_line before b n order (eqb at (length s)) (λ after next. load_from before after next (n + 1) (lines (drop at s))) ≡ continued s before t
-  pub reached : Reached t.book
-  pub ahead : at ≤ t.at
-  pub within : t.at ≤ length s
-  pub counted : t.lines ≤ t.at
-
--- a turn does what the lines from a position on do, up to where it stands afterwards
-pub record Turns (s : List ℕ) (b : Book) (waiting : Waiting) (at n : ℕ) (t : Turn) : Type 0 where
-  pub same : (before : Book) → load_from before b waiting n (lines (drop at s)) ≡ continued s before t
-  pub reached : Reached t.book
-  pub ahead : at ≤ t.at
-  pub within : t.at ≤ length s
-  pub counted : t.lines ≤ t.at
-
--- what is left of file s behind the F lines of an opening, whose holders and shares were gathered
-abbrev pub gathered_by : List ℕ → (before b : Book) → (line first term annual cents : ℕ) → Financing → Next → Outcome
-gathered_by s before b line first term annual cents g next.On =
-    after_open before b (Waits line (opening_with first term annual cents (take g.count g.holders) (take g.count g.shares)))
-    (λ opened. load_from before opened None g.lines (lines (drop g.at s)))
-gathered_by s before b line first term annual cents g (next.Stop a) = stopped before a b
-
-abbrev pub gathered : List ℕ → (before b : Book) → (line first term annual cents : ℕ) → Financing → Outcome
-gathered s before b line first term annual cents g = gathered_by s before b line first term annual cents g g.next
-
-pub record Gathers (s : List ℕ) (at n : ℕ) (g : Financing) : Type 0 where
+pub record Gathers (old new : Lines) (answer : Result Financing LoadFault) : Type 0 where
   pub same : (before b : Book) (line first term annual cents : ℕ)
-      → load_from before b (Waits line (opening_with first term annual cents [] [])) n (lines (drop at s)) ≡ gathered s before b line first term annual cents g
-  pub ahead : at ≤ g.at
-  pub within : g.at ≤ length s
-  pub counted : g.lines ≤ g.at
-  pub few : g.count ≤ 64
-  pub holders-full : length g.holders ≡ 64
-  pub shares-full : length g.shares ≡ 64
+      → left before b (Waits line (opening_with first term annual cents [] [])) old ≡ gathered before b line first term annual cents new answer
+
+-- an O line with these fields, read last, opens a book, with the F lines behind it
+pub record Opens (first term annual cents : ℕ) (old new : Lines) (b after : Book) (answer : Result (Unit {0}) LoadFault) : Type 0 where
+  pub same : (before : Book)
+      → left before b (Waits old.read (opening_with first term annual cents [] [])) old ≡ goes_on before (λ opened. left before opened None new) after answer
+
+-- a line with these fields, read last, does what its order does, with the F lines behind an O line
+pub record Obeys (f : Fields) (old new : Lines) (b after : Book) (answer : Result (Unit {0}) LoadFault) : Type 0 where
+  pub same : (before : Book) (last : Bool)
+      → after_line before b (old.read - 1) (order_of f) last (λ opened next. left before opened next old) ≡ goes_on before (λ opened. left before opened None new) after answer

@@ -1,88 +1,45 @@
 // The F lines behind an O line, gathered as the two lists that Open takes.
-ghost use Rattle.std.specs.Prelude.{◌≡◌, ◌≤◌, length};
-ghost use Rattle.file.specs.Turns.{saturated, Gathers};
+ghost use Rattle.std.specs.Prelude.{◌≡◌, ◌≤◌, length, IfOk};
+ghost use Rattle.file.specs.Turns.{saturated, Moves, Gathers};
 
-use crate::turning::Next;
-use book::Book;
-use file_model::{LoadAnswer, LoadRefusal};
-use line::ReadAnswer;
+use crate::reading::Lines;
+use book::{Book, Refusal};
+use file_model::{LoadFault, LoadRefusal};
 
-// The greatest u32.
-const GREATEST: u64 = 4294967295;
-
-// Holders and shares so far, how many, the position behind their lines and the lines before it; or why they are refused.
+// Holders and shares in the order of their lines, and how many. Two arrays, as Open takes two lists.
 #[derive(Clone, Copy)]
 pub struct Financing {
-    pub next: Next,
     pub holders: [u32; Book::POSITIONS],
     pub shares: [u32; Book::POSITIONS],
     pub count: usize,
-    pub at: usize,
-    pub lines: usize,
 }
 
 // A share as Open takes it. One that doesn't fit is refused there as the greatest.
 pub fn share_of(third: u64) -> u32
     ensures { result ≡ saturated third }
 {
-    if GREATEST < third {
-        return GREATEST as u32;
-    }
-    third as u32
+    u32::try_from(third).unwrap_or(u32::MAX)
 }
 
-// All lines from a position on that begin with F, up to the first at fault.
-pub fn gather(file: &[u8], start: usize, before: usize) -> Financing
-    requires { (start ≤ length file.now) × (before ≤ start) }
-    ensures { Gathers file.now start before result }
+// All lines from the next one on that begin with F, up to the first at fault.
+pub fn gather(lines: &mut Lines) -> Result<Financing, LoadFault>
+    ensures gathered { Gathers lines.old lines.new result }
+    ensures moved { Moves lines.old lines.new }
+    ensures few { IfOk result (λ g. (g.count ≤ 64) × (length g.holders ≡ 64) × (length g.shares ≡ 64)) }
 {
-    let mut holders = [0u32; Book::POSITIONS];
-    let mut shares = [0u32; Book::POSITIONS];
-    let mut count: usize = 0;
-    let mut at = start;
-    let mut lines = before;
-    while at < file.len() && file[at] == b'F' {
-        let step = lines::read_from(file, at);
-        let line = step.line;
-        let next = step.at;
-        let ReadAnswer::Read(f) = line else {
-            return Financing {
-                next: Next::Stop(LoadAnswer::Refused {
-                    refusal: LoadRefusal::Line,
-                    line: lines + 1,
-                }),
-                holders,
-                shares,
-                count,
-                at,
-                lines,
-            };
-        };
-        if Book::POSITIONS <= count {
-            return Financing {
-                next: Next::Stop(LoadAnswer::Refused {
-                    refusal: LoadRefusal::Call(book::Refusal::Financing),
-                    line: lines + 1,
-                }),
-                holders,
-                shares,
-                count,
-                at,
-                lines,
-            };
+    let mut financing = Financing {
+        holders: [0; Book::POSITIONS],
+        shares: [0; Book::POSITIONS],
+        count: 0,
+    };
+    while lines.begins_with_f() {
+        let fields = lines.next_line()?;
+        if financing.count == Book::POSITIONS {
+            return Err(lines.fault(LoadRefusal::Call(Refusal::Financing)));
         }
-        holders[count] = f.first;
-        shares[count] = share_of(f.third);
-        count += 1;
-        at = next;
-        lines += 1;
+        financing.holders[financing.count] = fields.first;
+        financing.shares[financing.count] = share_of(fields.third);
+        financing.count += 1;
     }
-    Financing {
-        next: Next::On,
-        holders,
-        shares,
-        count,
-        at,
-        lines,
-    }
+    Ok(financing)
 }

@@ -2,10 +2,9 @@
 // is the theorem of the crate `file_model`.
 #![tactic(auto)]
 
-mod calls;
 mod financing;
 mod loading;
-mod turning;
+mod reading;
 
 pub use crate::loading::{load, part_bounds, refused_part};
-pub use file_model::{LoadAnswer, LoadRefusal, Loaded};
+pub use file_model::{LoadFault, LoadRefusal, line_named};

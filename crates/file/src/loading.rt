@@ -1,96 +1,128 @@
 // A file loaded on a book, and the part of the file that the answer names.
-ghost use Rattle.std.specs.Prelude.{◌≡◌};
-ghost use Rattle.book_model.specs.Reached.{Reached};
+ghost use Rattle.std.specs.Prelude.{◌≡◌, ◌≢◌, ◌-◌, ◌<◌, eqb, length};
 ghost use Rattle.lines.specs.Lines.{part_of};
 ghost use Rattle.file_model.specs.Load.{load_stated, load_of, part_start, part_end};
-ghost use Rattle.file_model.specs.Load as load;
-ghost use Rattle.file.specs.Turns.{stopped};
+ghost use Rattle.file.specs.Turns.{by_line, stopped, Ends, Moves, Opens, Obeys};
 
-use crate::calls::{advance_line, rate_line, settle_line, transfer_line};
-use crate::turning::{Next, Turn, other_turn};
-use book::Book;
-use file_model::{LoadAnswer, LoadRefusal, Loaded};
-use line::ReadAnswer;
-use lines::Bounds;
+use crate::financing::gather;
+use crate::reading::Lines;
+use book::{Called, Cents, Day, Parts, ReachedBook, Refusal};
+use file_model::{LoadFault, LoadRefusal, line_named};
+use line::Fields;
+use std::ops::Range;
 
-// An accepted load keeps the book that it came to, a refused one the book that came in.
-pub fn concluded(answer: LoadAnswer, after: Book, before: Book) -> Loaded
-    ensures { load_stated result ≡ stopped before answer after }
+// A call's refusal is one of the line that made it.
+fn by_line<T: Drop>(line: usize, answer: Result<T, Refusal>) -> Result<(), LoadFault>
+    ensures { result ≡ by_line line answer }
 {
     match answer {
-        LoadAnswer::Accepted(_) => Loaded {
-            answer,
-            book: after,
-        },
-        LoadAnswer::Refused {
-            refusal: _,
-            line: _,
-        } => Loaded {
-            answer,
-            book: before,
-        },
+        Ok(_) => Ok(()),
+        Err(refusal) => Err(LoadFault {
+            refusal: refusal.into(),
+            line,
+        }),
     }
 }
 
-// A refused load gives back the book that came in.
-pub fn refused(book: Book, refusal: LoadRefusal, line: usize) -> Loaded
-    ensures { load_stated result ≡ load.refused book line refusal }
+// An O line, read last, with the F lines behind it.
+fn open(book: &mut ReachedBook, order: Fields, lines: &mut Lines) -> Result<(), LoadFault>
+    ensures opened { Opens order.date order.first order.second order.third lines.old lines.new book.old.book book.new.book result }
+    ensures moved { Moves lines.old lines.new }
 {
-    Loaded {
-        answer: LoadAnswer::Refused { refusal, line },
+    let line = lines.read;
+    let financing = gather(lines)?;
+    let opened = book::open_book_in_place(
         book,
+        order.date,
+        Day(order.first),
+        order.second as u64,
+        Cents(order.third),
+        &financing.holders[..financing.count],
+        &financing.shares[..financing.count],
+    );
+    by_line(line, opened)
+}
+
+// An E line, read last, with its count of the lines before it.
+fn end(count: u64, lines: &Lines) -> Result<usize, LoadFault>
+    requires { 0 < lines.now.read }
+    ensures { Ends (lines.now.read - 1) count (eqb lines.now.reader.at (length lines.now.reader.file.now)) result }
+{
+    let before = lines.read - 1;
+    if count != before as u64 {
+        return Err(lines.fault(LoadRefusal::Unfinished));
+    }
+    if !lines.is_at_end() {
+        return Err(lines.next_fault(LoadRefusal::Unfinished));
+    }
+    Ok(before)
+}
+
+// A line other than E, read last, and the F lines behind an O line. Each call has arguments of its own, so the letters are told apart here.
+fn obey(book: &mut ReachedBook, order: Fields, lines: &mut Lines) -> Result<(), LoadFault>
+    requires { (0 < lines.old.read) × (order.letter ≢ 69) }
+    ensures obeyed { Obeys order lines.old lines.new book.old.book book.new.book result }
+    ensures moved { Moves lines.old lines.new }
+{
+    match order.letter {
+        b'D' => by_line(lines.read, book::advance_in_place(book, order.date)),
+        b'R' => by_line(
+            lines.read,
+            book::rate_in_place(book, order.date, order.third),
+        ),
+        b'T' => {
+            let parts = Parts(order.third);
+            let moved = book::transfer_in_place(book, order.first, order.second, parts);
+            by_line(lines.read, moved)
+        }
+        b'S' => by_line(lines.read, book::settle_in_place(book, Cents(order.third))),
+        b'O' => open(book, order, lines),
+        _ => Err(lines.fault(LoadRefusal::Line)),
     }
 }
 
-// Loads a file, all or nothing. Each arm's turn goes straight into the loop's own: where arms meet in another place, the book is copied.
-pub fn load(file: &[u8], book: Book) -> Loaded
-    requires { Reached book }
-    ensures { load_stated result ≡ load_of book file.now }
+// The lines of a file in turn, each on the book that the last one left, up to where the reader stands at the file's end.
+fn load_lines(file: &[u8], book: &mut ReachedBook) -> Result<usize, LoadFault>
+    ensures { stopped book.old.book result book.new.book ≡ load_of book.old.book file.now }
 {
-    if file.len() == 0 {
-        return refused(book, LoadRefusal::Empty, 1);
+    let mut lines = Lines::new(file);
+    if lines.is_at_end() {
+        return Err(lines.next_fault(LoadRefusal::Empty));
     }
-    let mut turn = Turn {
-        next: Next::On,
-        book,
-        at: 0,
-        lines: 0,
-    };
-    while turn.at < file.len() {
-        let step = lines::read_from(file, turn.at);
-        let line = step.line;
-        let at = step.at;
-        let before = turn.lines;
-        let lines = before + 1;
-        let ReadAnswer::Read(f) = line else {
-            return refused(book, LoadRefusal::Line, lines);
-        };
-        let letter = f.letter;
-        match letter {
-            b'D' => turn = advance_line(turn.book, f.date, at, lines),
-            b'R' => turn = rate_line(turn.book, f.date, f.third, at, lines),
-            b'T' => turn = transfer_line(turn.book, f.first, f.second, f.third, at, lines),
-            b'S' => turn = settle_line(turn.book, f.third, at, lines),
-            _ => turn = other_turn(file, turn.book, f, at, before),
+    while !lines.is_at_end() {
+        let order = lines.next_line()?;
+        if order.letter == b'E' {
+            return end(order.third, &lines);
         }
-        let next = turn.next;
-        if let Next::Stop(answer) = next {
-            return concluded(answer, turn.book, book);
-        }
+        obey(book, order, &mut lines)?;
     }
-    refused(book, LoadRefusal::Unfinished, turn.lines + 1)
+    Err(lines.next_fault(LoadRefusal::Unfinished))
+}
+
+// Loads a file, all or nothing: a refused load gives back the book that came in.
+pub fn load(file: &[u8], book: ReachedBook) -> Called<usize, LoadFault>
+    ensures { load_stated result ≡ load_of book.book file.now }
+{
+    let mut after = book;
+    let answer = load_lines(file, &mut after);
+    Called {
+        answer,
+        book: if answer.is_ok() { after } else { book },
+    }
 }
 
 // Where the part begins and ends that an answer names: the refused line, or the empty part at the file's end.
-pub fn part_bounds(file: &[u8], answer: LoadAnswer) -> Bounds
+#[tactic(auto, unfolding(file_model::specs::Load::part_start, file_model::specs::Load::part_end))]
+pub fn part_bounds(file: &[u8], answer: Result<usize, LoadFault>) -> Range<usize>
     ensures { (result.start ≡ part_start file.now answer) × (result.end ≡ part_end file.now answer) }
 {
-    lines::line_bounds(file, answer.line())
+    lines::line_bounds(file, line_named(answer))
 }
 
 // The part itself.
-pub fn refused_part<'a>(file: &'a [u8], answer: LoadAnswer) -> &'a [u8]
+#[tactic(auto, unfolding(file_model::specs::Load::part_start, file_model::specs::Load::part_end))]
+pub fn refused_part<'a>(file: &'a [u8], answer: Result<usize, LoadFault>) -> &'a [u8]
     ensures { result.now ≡ part_of file.now (part_start file.now answer) (part_end file.now answer) }
 {
-    lines::line_part(file, answer.line())
+    lines::line_part(file, line_named(answer))
 }

@@ -7,6 +7,7 @@ use native.Mathlib.Omega.{arith}
 use lib.ListN.{take}
 use Rattle.calendar.specs.Calendar.{days_of_years, day_count}
 use Rattle.book_model.specs.declared.Book.{Book}
+use Rattle.book_model.specs.declared.Taken.{Taken}
 use Rattle.account.specs.Accrual.{accrued_day}
 use Rattle.book_model.specs.Advance.{day_passed, days_passed, advanced_to, advanced, last_settled}
 use Rattle.book_model.specs.Book.{held, empty_book, with_held, with_account, with_today}
@@ -58,7 +59,7 @@ last_advance_accepted = refl
 repaid : (b : Book) (cents : ℕ) → b.opened ≡ true → b.settled ≡ 0 → last_settled b < b.today.0 → b.account.outstanding.0 ≡ cents
     → cents ≤ 100000000000 → number_of b (Settle cents) ≡ 0
 repaid b cents o s d e h =
-    sym (ap (λ (r : outcome.Outcome outcome.Taken). r.answer.number) (settle-accepted b (record { 0 = cents }) o h (omega arith) d (omega arith)))
+    sym (ap (λ (r : outcome.Outcome Taken). r.answer.number) (settle-accepted b (record { 0 = cents }) o h (omega arith) d (omega arith)))
 
 settlement_accepted : number_of (book_after assigned (Advance 20140131)) (Settle 100) ≡ 0
 unfolding run opened is_financing new_book empty_book opening advanced advanced_to day_count days_of_years last_day

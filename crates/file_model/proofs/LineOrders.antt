@@ -9,17 +9,17 @@ use lib.Dec.{eqb}
 use lib.ListN.{length, get_or}
 use Rattle.general_laws.proofs.Choice.{choice}
 use Rattle.line.specs.declared.Fields.{Fields}
-use Rattle.line.specs.declared.ReadAnswer.TheVariants as read_answer
+use Rattle.std.specs.Prelude.{Ok, Err}
 use Rattle.line.specs.Field.{field_at}
 use Rattle.line.specs.Line.{uses_of, formed, read_stated, assembled_of, columns_of, line_of}
 use Rattle.file_model.specs.Load.{begins_with_f}
 use Rattle.file_model.specs.Order.{Order, Open, Finance, Later, End, Malformed, order_of, order_in}
 
-pub order-read : (f : Fields) (l : List ℕ) → read_stated (read_answer.Read f) ≡ line_of l → order_in l ≡ order_of f
+pub order-read : (f : Fields) (l : List ℕ) → read_stated (Ok f) ≡ line_of l → order_in l ≡ order_of f
 unfolding order_in
 order-read f l e = rw (sym e)
 
-pub order-malformed : (l : List ℕ) → read_stated read_answer.Malformed ≡ line_of l → order_in l ≡ Malformed
+pub order-malformed : (l : List ℕ) → read_stated (Err (record {})) ≡ line_of l → order_in l ≡ Malformed
 unfolding order_in
 order-malformed l e = rw (sym e)
 
@@ -37,7 +37,7 @@ letter_well_formed l =
     (λ _ refused. absurd (omega arith)))
     (λ _ refused. absurd (omega arith))
 
-pub letter-first : (f : Fields) (l : List ℕ) → read_stated (read_answer.Read f) ≡ line_of l → f.letter ≡ get_or l 0 0
+pub letter-first : (f : Fields) (l : List ℕ) → read_stated (Ok f) ≡ line_of l → f.letter ≡ get_or l 0 0
 letter-first f l e =
     ap (λ (r : ℕ × Fields). r.1.letter) e ∙ letter_well_formed l (sym (ap (λ (r : ℕ × Fields). r.0) e))
 

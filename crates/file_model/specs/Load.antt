@@ -1,7 +1,8 @@
 -- Loading a file on a book (document 01, "Order file"): its lines in turn, each by the book's own definition of its call. "Loading is all or
 -- nothing." "the first fault decides."
-use Rattle.std.specs.Prelude.{ℕ, ◌+◌, Bool, true, false, cond, not, List, [], ◌∷◌, ◌++◌, leb, eqb, length, get_or}
+use Rattle.std.specs.Prelude.{ℕ, ◌+◌, Result, Ok, Err, Bool, true, false, cond, not, List, [], ◌∷◌, ◌++◌, leb, eqb, length, get_or}
 use Rattle.book_model.specs.declared.Book.{Book}
+use Rattle.book_model.specs.declared.called.Called.{Called}
 use Rattle.book_model.specs.declared.Refusal.TheVariants as book-refusal
 use Rattle.book_model.specs.Call.{Opening}
 use Rattle.book_model.specs.Calls.{opened_with, book_after, number_of}
@@ -10,9 +11,7 @@ use Rattle.line.specs.Line.{malformed_number}
 use Rattle.lines.specs.Lines.{lines, line_start, line_end}
 use Rattle.file_model.specs.declared.LoadRefusal.{LoadRefusal}
 use Rattle.file_model.specs.declared.LoadRefusal.TheVariants as refusal
-use Rattle.file_model.specs.declared.LoadAnswer.{LoadAnswer}
-use Rattle.file_model.specs.declared.LoadAnswer.TheVariants as answer
-use Rattle.file_model.specs.declared.Loaded.{Loaded}
+use Rattle.file_model.specs.declared.LoadFault.{LoadFault}
 use Rattle.file_model.specs.Order.{Order, Open, Finance, Later, End, Malformed, order_in}
 
 -- What a load gives back
@@ -41,12 +40,12 @@ refused_by before line number = record { number = number; line = line; count = 0
 abbrev pub refused : (before : Book) → (line : ℕ) → LoadRefusal → Outcome
 refused before line r = refused_by before line (refusal_number r)
 
-abbrev pub answered : LoadAnswer → Book → Outcome
-answered (answer.Accepted count) b = accepted count b
-answered (answer.Refused r line) b = refused b line r
+abbrev pub answered : Result ℕ LoadFault → Book → Outcome
+answered (Ok count) b = accepted count b
+answered (Err fault) b = refused b fault.line fault.refusal
 
-abbrev pub load_stated : Loaded → Outcome
-load_stated o = answered o.answer o.book
+abbrev pub load_stated : Called ℕ LoadFault → Outcome
+load_stated called = answered called.answer called.book.book
 
 -- The lines in turn. `before` is the book that came in, and n counts the lines before the one that is read.
 
@@ -125,14 +124,14 @@ load_of b (x ∷ s) = load_from b b None 0 (lines (x ∷ s))
 -- The part of the file that an answer names
 
 -- the number of the refused line, 0 for none
-abbrev pub line_named : LoadAnswer → ℕ
-line_named (answer.Accepted count) = 0
-line_named (answer.Refused r line) = line
+abbrev pub line_named : Result ℕ LoadFault → ℕ
+line_named (Ok count) = 0
+line_named (Err fault) = fault.line
 
 -- "the refused line itself, as part of the file (with its line feed; an incomplete last line up to the end; for 20, or 22 without E, the empty
 -- part at the end)"; "Acceptance gives .. as its part the empty one at the file's end"
-unfoldable pub part_start : List ℕ → LoadAnswer → ℕ
+unfoldable pub part_start : List ℕ → Result ℕ LoadFault → ℕ
 part_start s a = line_start s (line_named a)
 
-unfoldable pub part_end : List ℕ → LoadAnswer → ℕ
+unfoldable pub part_end : List ℕ → Result ℕ LoadFault → ℕ
 part_end s a = line_end s (line_named a)

@@ -5,11 +5,14 @@ ghost use Rattle.std.specs.Prelude.{◌≡◌};
 ghost use Rattle.file_model.specs.Load.{refusal_number, line_named};
 ghost use Rattle.file_model.specs.Loads.{Loads};
 ghost use Rattle.file_model.specs.Examples.{Examples};
+ghost use Rattle.file_model.specs.declared.LoadRefusal.TheVariants.{Call, Line};
 
-use book_model::{Book, Refusal};
+use answers::Numbered;
+use book_model::Refusal;
+use line::Malformed;
 
 // Why a file is refused, in document 01's trade words: the file itself, one of its lines, or a call of the book.
-#[derive(Clone, Copy)]
+#[derive(Clone, Copy, Debug, PartialEq, Eq)]
 pub enum LoadRefusal {
     Empty,
     Line,
@@ -17,11 +20,11 @@ pub enum LoadRefusal {
     Call(Refusal),
 }
 
-impl LoadRefusal {
-    // Its number in document 01's table.
-    pub fn number(self) -> u32
-        ensures { result ≡ refusal_number self }
-    {
+// Its number in document 01's table.
+impl Numbered for LoadRefusal {
+    ghost number = { refusal_number };
+
+    fn number(self) -> u32 {
         match self {
             LoadRefusal::Empty => 20,
             LoadRefusal::Line => line::MALFORMED,
@@ -31,29 +34,45 @@ impl LoadRefusal {
     }
 }
 
-// The count of the lines before E, or why the file is refused and the number of the line at fault.
-#[derive(Clone, Copy)]
-pub enum LoadAnswer {
-    Accepted(usize),
-    Refused { refusal: LoadRefusal, line: usize },
-}
+impl From<Malformed> for LoadRefusal {
+    ghost from_gives = { λ _ refusal. refusal ≡ Line };
 
-impl LoadAnswer {
-    // The number of the refused line, 0 for none.
-    pub fn line(self) -> usize
-        ensures { result ≡ line_named self }
-    {
-        match self {
-            LoadAnswer::Accepted(_) => 0,
-            LoadAnswer::Refused { refusal: _, line } => line,
-        }
+    fn from(_: Malformed) -> LoadRefusal {
+        Self::Line
     }
 }
 
-#[derive(Clone, Copy)]
-pub struct Loaded {
-    pub answer: LoadAnswer,
-    pub book: Book,
+impl From<Refusal> for LoadRefusal {
+    ghost from_gives = { λ call refusal. refusal ≡ Call call };
+
+    fn from(call: Refusal) -> LoadRefusal {
+        Self::Call(call)
+    }
+}
+
+// Why a file is refused, and the number of the line at fault.
+#[derive(Clone, Copy, Debug, PartialEq, Eq)]
+pub struct LoadFault {
+    pub refusal: LoadRefusal,
+    pub line: usize,
+}
+
+impl Numbered for LoadFault {
+    ghost number = { λ fault. refusal_number fault.refusal };
+
+    fn number(self) -> u32 {
+        self.refusal.number()
+    }
+}
+
+// The number of the refused line, 0 where the file is accepted.
+pub fn line_named(answer: Result<usize, LoadFault>) -> usize
+    ensures { result ≡ line_named answer }
+{
+    match answer {
+        Ok(_) => 0,
+        Err(fault) => fault.line,
+    }
 }
 
 // What holds of every file and book: which book an accepted file leaves, and that a cut-off one is refused. And document 01's example file.

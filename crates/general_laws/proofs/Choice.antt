@@ -36,16 +36,15 @@ pub neither_true : (s t : Bool) → s || t ≡ false → (s ≡ false) × (t ≡
 neither_true true t e = true_not_false true refl e
 neither_true false t e = (refl, e)
 
-abbrev pub FiveTrue : Bool → Bool → Bool → Bool → Bool → Type 0
-FiveTrue q r s t u = (q ≡ true) × (r ≡ true) × (s ≡ true) × (t ≡ true) × (u ≡ true)
+abbrev pub FourTrue : Bool → Bool → Bool → Bool → Type 0
+FourTrue q r s t = (q ≡ true) × (r ≡ true) × (s ≡ true) × (t ≡ true)
 
-pub five_true : (q r s t u : Bool) → q && (r && (s && (t && u))) ≡ true → FiveTrue q r s t u
-five_true q r s t u e =
-    let first = both_true q (r && (s && (t && u))) e in
-    let second = both_true r (s && (t && u)) first.1 in
-    let third = both_true s (t && u) second.1 in
-    let fourth = both_true t u third.1 in
-    (first.0, second.0, third.0, fourth.0, fourth.1)
+pub four_true : (q r s t : Bool) → q && (r && (s && t)) ≡ true → FourTrue q r s t
+four_true q r s t e =
+    let first = both_true q (r && (s && t)) e in
+    let second = both_true r (s && t) first.1 in
+    let third = both_true s t second.1 in
+    (first.0, second.0, third.0, third.1)
 
 -- tests that imply each other are equal
 pub test_same : (s t : Bool) → (s ≡ true → t ≡ true) → (t ≡ true → s ≡ true) → s ≡ t

@@ -1,32 +1,11 @@
--- The front of an array: its first places read one by one, stored to, or filled one by one from a list.
-use Prim.Native.Nat.{ℕ, zero, suc, min, ◌+◌, ◌≤◌, ◌<◌}
+-- The front of an array: its first places stored to, or filled one by one from a list.
+use Prim.Native.Nat.{ℕ, suc, ◌+◌, ◌≤◌, ◌<◌}
 use native.Mathlib.Omega.{arith}
 use native.Mathlib.Numerals.{add-one}
-use mathlib.Core.Path.{◌≡◌, refl, sym, ap, ◌∙◌}
+use mathlib.Core.Path.{◌≡◌}
 use mathlib.Core.List.{List, [], ◌∷◌, ◌++◌}
-use lib.ListN.{length, take, drop, get_or, set, length-append, length-drop, length-set, take-append-drop}
-use lib.Seq.{drop-cons, drop-length, take-suc, take-length, append_snoc, get_or_at, get_or-take, set_at, set_split, take-nil, take-set-lt, drop-set-lt, length-take-le}
-
--- The first n places read: what remains from place j on
-
-module _ {A : Type 0} (l : List A) (n j : ℕ) (room : n ≤ length l) where
-  pub remains : (d : A) → j < n → drop j (take n l) ≡ get_or l j d ∷ drop (j + 1) (take n l)
-  remains d lt =
-      let e = length-take-le n l room in
-      drop-cons (take n l) j d (omega arith) ∙ rw (add-one j, get_or-take n l j d lt)
-
-  pub none-remains : n ≤ j → j ≤ n → drop j (take n l) ≡ []
-  none-remains ge le =
-      let e : j ≡ length (take n l) = omega (arith, length-take-le n l room) in
-      ap (λ (k : ℕ). drop k (take n l)) e ∙ drop-length (take n l)
-
--- of a count and the places that there are, the lesser is read
-pub take_in_use : {A : Type 0} (l : List A) (n k : ℕ) → k ≡ min n (length l) → take k l ≡ take n l
-take_in_use [] n k e = take-nil k ∙ sym (take-nil n)
-take_in_use (x ∷ l) zero zero e = refl
-take_in_use (x ∷ l) zero (suc k) e = absurd (omega arith)
-take_in_use (x ∷ l) (suc n) zero e = absurd (omega arith)
-take_in_use {A} (x ∷ l) (suc n) (suc k) e = ap (λ (r : List A). x ∷ r) (take_in_use l n k (omega arith))
+use lib.ListN.{length, take, drop, get_or, set, length-set, take-append-drop}
+use lib.Seq.{drop-cons, take-suc, take-length, append_snoc, get_or_at, set_at, set_split, take-set-lt, drop-set-lt, length-take-le}
 
 -- Stores among the first n places of an array, the rest of it unchanged
 
@@ -68,9 +47,6 @@ module _ {A : Type 0} (ts l : List A) (i : ℕ) (d : A) (room : i < length l) wh
         take-suc ts i d lt,
         append_snoc,
       )
-
-pub length-filled : {A : Type 0} (ts l : List A) (i : ℕ) → i ≤ length ts → i ≤ length l → length (filled ts i l) ≡ length l
-length-filled ts l i le room = let e = length-take-le i ts le in rw (length-append, length-drop) (omega arith)
 
 pub filled-all : {A : Type 0} (ts l : List A) (i : ℕ) → i ≡ length ts → filled ts i l ≡ ts ++ drop (length ts) l
 filled-all ts l i e = rw (e, take-length ts)

@@ -8,7 +8,6 @@ pub mod Lists
 pub mod Totals
 pub mod Fronts
 pub mod Members
-pub mod Rests
 pub mod Stores
 pub mod Parts
 pub mod Powers

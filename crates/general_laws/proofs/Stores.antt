@@ -1,20 +1,13 @@
--- Stores into a list, one after the other from a place on: two runs as one, and the last store made first.
-use Prim.Native.Nat.{ℕ, suc, ◌+◌, ◌≤◌}
-use native.Mathlib.Nat.{add-zero, add-suc, suc-add}
+-- Stores into a list, one after the other from a place on: two runs as one.
+use Prim.Native.Nat.{ℕ, suc, ◌+◌}
+use native.Mathlib.Nat.{add-zero}
 use native.Mathlib.Omega.{arith}
-use mathlib.Core.Path.{◌≡◌, refl, ap, ◌∙◌}
+use mathlib.Core.Path.{◌≡◌, ap, ◌∙◌}
 use mathlib.Core.List.{List, [], ◌∷◌, ◌++◌}
 use lib.ListN.{length, set}
-use lib.Seq.{sets, set_comm}
+use lib.Seq.{sets}
 
 module _ {A : Type 0} where
-  -- a store behind a run may come before it
-  set_sets : (vs l : List A) (i k : ℕ) (v : A) → i + length vs ≤ k → set (sets l i vs) k v ≡ sets (set l k v) i vs
-  set_sets [] l i k v h = refl
-  set_sets (a ∷ vs) l i k v h =
-      set_sets vs (set l i a) (suc i) k v (omega (arith, add-suc i (length vs), suc-add i (length vs)))
-      ∙ ap (λ (x : List A). sets x (suc i) vs) (set_comm l i k a v (omega arith))
-
   -- two runs, one behind the other, are one
   pub sets_append : (xs ys l : List A) (i : ℕ) → sets l i (xs ++ ys) ≡ sets (sets l i xs) (i + length xs) ys
   sets_append [] ys l i = rw add-zero
@@ -25,6 +18,3 @@ module _ {A : Type 0} where
   -- the same, where the first run's length is known
   pub sets_append_at : (xs ys l : List A) (i n : ℕ) → length xs ≡ n → sets l i (xs ++ ys) ≡ sets (sets l i xs) (i + n) ys
   sets_append_at xs ys l i n e = sets_append xs ys l i ∙ ap (λ (k : ℕ). sets (sets l i xs) (i + k) ys) e
-
-  pub sets_last_first : (xs l : List A) (i n : ℕ) (x : A) → length xs ≡ n → sets l i (xs ++ (x ∷ [])) ≡ sets (set l (i + n) x) i xs
-  sets_last_first xs l i n x e = sets_append_at xs (x ∷ []) l i n e ∙ set_sets xs l i (i + n) x (omega arith)

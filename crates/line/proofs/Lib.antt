@@ -7,6 +7,7 @@ mod FieldReading
 mod LineStores
 mod LineRoundTrip
 mod LineRefusals
+mod LineReading
 mod Examples
 mod NumberPut
 pub mod Callers

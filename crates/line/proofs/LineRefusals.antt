@@ -9,10 +9,9 @@ use lib.Dec.{eqb}
 use lib.ListN.{length, get_or}
 use borrow.Author.Tests.{eqb-true, ne_eqb}
 use Rattle.line.specs.declared.Fields.{Fields}
-use Rattle.line.specs.declared.field.Field.{Field}
-use Rattle.line.specs.declared.field.Field.TheVariants.{Blank, Number, Bad}
+use Rattle.std.specs.Prelude.{Option, Some, None, Ok, Err}
 use Rattle.line.specs.declared.line.Uses.{Uses}
-use Rattle.line.specs.Field.{step_of, field_at}
+use Rattle.line.specs.Field.{Field, bad, step_of, field_at}
 use Rattle.line.specs.Line.{malformed_number, no_fields, uses_of, formed, fields_from, assembled_of, columns_of, line_of}
 use Rattle.line.proofs.FieldReading.{bad_stays}
 
@@ -21,16 +20,16 @@ Refused r = r ≡ (malformed_number, no_fields)
 
 -- A line feed among the columns
 
-step_feed : (f : Field) → step_of f 10 ≡ Bad
-step_feed Blank = refl
-step_feed (Number n) = go (eqb n 0)
+step_feed : (f : Field) → step_of f 10 ≡ bad
+step_feed (Ok None) = refl
+step_feed (Ok (Some n)) = go (eqb n 0)
   where
-    go : (t : Bool) → cond t Bad Bad ≡ Bad
+    go : (t : Bool) → cond t bad bad ≡ bad
     go true = refl
     go false = refl
-step_feed Bad = refl
+step_feed (Err _) = refl
 
-feed_bad : (s : List ℕ) (at w k : ℕ) → at ≤ k → k < at + w → get_or s k 0 ≡ 10 → field_at s at w ≡ Bad
+feed_bad : (s : List ℕ) (at w k : ℕ) → at ≤ k → k < at + w → get_or s k 0 ≡ 10 → field_at s at w ≡ bad
 unfolding field_at
 feed_bad s at w k from to e =
     let n : at + (k - at) ≡ k = omega arith in
@@ -39,32 +38,37 @@ feed_bad s at w k from to e =
     ∙ ap (step_of (field_at s at (k - at))) e
     ∙ step_feed (field_at s at (k - at)))
 
-unformed : (l : ℕ) (u : Uses) (date first second third : Field) → formed u date first second third ≡ false
-    → Refused (assembled_of l u date first second third)
+unformed : (l : ℕ) (o : Option Uses) (date first second third : Field) → formed o date first second third ≡ false
+    → Refused (assembled_of l o date first second third)
 unfolding assembled_of
-unformed l u date first second third e =
+unformed l o date first second third e =
     ap (λ (t : Bool). cond t (0, fields_from l date first second third) (malformed_number, no_fields)) e
+
+any_uses : (o : Option Uses) (date first second third : Field) → ((u : Uses) → formed (Some u) date first second third ≡ false)
+    → formed o date first second third ≡ false
+any_uses None date first second third h = refl
+any_uses (Some u) date first second third h = h u
 
 module _ (s : List ℕ) where
   letter-feed : get_or s 0 0 ≡ 10 → Refused (columns_of s)
   unfolding columns_of assembled_of uses_of
   letter-feed e = rw e
 
-  date_bad : field_at s 1 8 ≡ Bad → Refused (columns_of s)
+  date_bad : field_at s 1 8 ≡ bad → Refused (columns_of s)
   unfolding columns_of
-  date_bad e = unformed _ _ _ _ _ _ (simp (e, and-false))
+  date_bad e = unformed _ _ _ _ _ _ (any_uses (uses_of (get_or s 0 0)) (field_at s 1 8) (field_at s 9 9) (field_at s 18 9) (field_at s 27 15) (λ u. simp e))
 
-  first_bad : field_at s 9 9 ≡ Bad → Refused (columns_of s)
+  first_bad : field_at s 9 9 ≡ bad → Refused (columns_of s)
   unfolding columns_of
-  first_bad e = unformed _ _ _ _ _ _ (simp (e, and-false))
+  first_bad e = unformed _ _ _ _ _ _ (any_uses (uses_of (get_or s 0 0)) (field_at s 1 8) (field_at s 9 9) (field_at s 18 9) (field_at s 27 15) (λ u. simp (e, and-false)))
 
-  second_bad : field_at s 18 9 ≡ Bad → Refused (columns_of s)
+  second_bad : field_at s 18 9 ≡ bad → Refused (columns_of s)
   unfolding columns_of
-  second_bad e = unformed _ _ _ _ _ _ (simp (e, and-false))
+  second_bad e = unformed _ _ _ _ _ _ (any_uses (uses_of (get_or s 0 0)) (field_at s 1 8) (field_at s 9 9) (field_at s 18 9) (field_at s 27 15) (λ u. simp (e, and-false)))
 
-  third_bad : field_at s 27 15 ≡ Bad → Refused (columns_of s)
+  third_bad : field_at s 27 15 ≡ bad → Refused (columns_of s)
   unfolding columns_of
-  third_bad e = unformed _ _ _ _ _ _ (simp (e, and-false))
+  third_bad e = unformed _ _ _ _ _ _ (any_uses (uses_of (get_or s 0 0)) (field_at s 1 8) (field_at s 9 9) (field_at s 18 9) (field_at s 27 15) (λ u. simp (e, and-false)))
 
   pub columns-feed : (k : ℕ) → k < 42 → get_or s k 0 ≡ 10 → Refused (columns_of s)
   columns-feed k h e = in_letter (dec_lt k 1)
@@ -104,6 +108,15 @@ module _ (s : List ℕ) where
       go : (t : Bool) → Refused (cond t (columns_of s) (malformed_number, no_fields))
       go true = e
       go false = refl
+
+  -- an unknown letter, or a field that isn't proper
+  pub unformed_line : (o : Option Uses) → uses_of (get_or s 0 0) ≡ o
+      → formed o (field_at s 1 8) (field_at s 9 9) (field_at s 18 9) (field_at s 27 15) ≡ false → Refused (line_of s)
+  unfolding columns_of
+  unformed_line o e h =
+      columns-refuse
+      (unformed _ _ _ _ _ _
+      (ap (λ (o : Option Uses). formed o (field_at s 1 8) (field_at s 9 9) (field_at s 18 9) (field_at s 27 15)) e ∙ h))
 
   -- one that isn't refused
   pub read_length : (f : Fields) → line_of s ≡ (0, f) → length s ≡ 43

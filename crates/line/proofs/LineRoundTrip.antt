@@ -8,14 +8,13 @@ use lib.Dec.{leb, eqb}
 use lib.ListN.{length, get_or, take, drop, drop_of_length-le}
 use lib.Seq.{take_at, get_or-drop, drop-cons}
 use borrow.Author.Tests.{ltb-true, lt-ltb, le-leb, eqb-true, eq-eqb}
-use Rattle.general_laws.proofs.Choice.{FiveTrue, five_true}
+use Rattle.general_laws.proofs.Choice.{FourTrue, four_true}
 use Rattle.general_laws.proofs.Parts.{part_followed, part-passed}
 use Rattle.line.specs.declared.Fields.{Fields}
-use Rattle.line.specs.declared.field.Field.{Field}
-use Rattle.line.specs.declared.field.Field.TheVariants.{Blank, Number, Bad}
+use Rattle.std.specs.Prelude.{Option, Some, None, Ok, Err}
 use Rattle.line.specs.declared.line.Uses.{Uses}
-use Rattle.line.specs.Field.{field_at}
-use Rattle.line.specs.FieldBelow.{Below}
+use Rattle.line.specs.Field.{Field, blank, field_at}
+use Rattle.line.proofs.FieldBounds.{Below}
 use Rattle.line.specs.Line.{malformed_number, no_fields, uses_of, proper, number_of, formed, fields_from, assembled_of, columns_of, line_of}
 use Rattle.line.specs.Write.{fits, fits_all, writable, field_bytes, bytes_under, line_bytes, written_of}
 use Rattle.line.specs.RoundTrip.{RoundTrip}
@@ -27,7 +26,7 @@ use Rattle.line.proofs.LineStores.{length_field, length-bytes, length-line}
 
 -- a field's bytes read back
 bytes_read : (u : Bool) (w n : ℕ) → 0 < w → fits u (10 ^ w) n ≡ true
-    → (proper u (columns Blank (field_bytes u w n)) ≡ true) × (number_of (columns Blank (field_bytes u w n)) ≡ n)
+    → (proper u (columns blank (field_bytes u w n)) ≡ true) × (number_of (columns blank (field_bytes u w n)) ≡ n)
 unfolding field_bytes
 bytes_read true w n pos h =
     let e = number-reads w n pos (ltb-true n (10 ^ w) h) in
@@ -38,13 +37,13 @@ bytes_read false w n pos h =
 
 -- a field whose bytes stand at `at`
 field_there : (s ys : List ℕ) (at : ℕ) (u : Bool) (w n : ℕ) → at + w ≤ length s → drop at s ≡ field_bytes u w n ++ ys
-    → field_at s at w ≡ columns Blank (field_bytes u w n)
+    → field_at s at w ≡ columns blank (field_bytes u w n)
 field_there s ys at u w n le e =
     field_columns s at w le
-    ∙ ap (λ (l : List ℕ). columns Blank (take w l)) e
-    ∙ ap (columns Blank) (take_at (field_bytes u w n) ys w (length_field u w n))
+    ∙ ap (λ (l : List ℕ). columns blank (take w l)) e
+    ∙ ap (columns blank) (take_at (field_bytes u w n) ys w (length_field u w n))
 
-module _ (u : Uses) (f : Fields) (h : fits_all u f ≡ true) where
+module _ (u : Uses) (f : Fields) (h : fits_all (Some u) f ≡ true) where
   abbrev date_bytes : List ℕ
   date_bytes = field_bytes u.date 8 f.date
 
@@ -104,21 +103,16 @@ module _ (u : Uses) (f : Fields) (h : fits_all u f ≡ true) where
   feed : get_or bytes 42 0 ≡ 10
   feed = sym (get_or-drop 42 bytes 0 0) ∙ ap (λ (l : List ℕ). get_or l 0 0) at-feed
 
-  assembled_back : assembled_of f.letter u (field_at bytes 1 8) (field_at bytes 9 9) (field_at bytes 18 9) (field_at bytes 27 15) ≡ (0, f)
+  assembled_back : assembled_of f.letter (Some u) (field_at bytes 1 8) (field_at bytes 9 9) (field_at bytes 18 9) (field_at bytes 27 15) ≡ (0, f)
   unfolding fits_all assembled_of
   assembled_back =
-      let g : FiveTrue
-      u.known
-      (fits u.date (10 ^ 8) f.date)
-      (fits u.first (10 ^ 9) f.first)
-      (fits u.second (10 ^ 9) f.second)
-      (fits u.third (10 ^ 15) f.third) = five_true _ _ _ _ _ h in
-      let date = bytes_read u.date 8 f.date (omega arith) g.1 in
-      let first = bytes_read u.first 9 f.first (omega arith) g.2 in
-      let second = bytes_read u.second 9 f.second (omega arith) g.3 in
-      let third = bytes_read u.third 15 f.third (omega arith) g.4 in
+      let g : FourTrue (fits u.date (10 ^ 8) f.date) (fits u.first (10 ^ 9) f.first) (fits u.second (10 ^ 9) f.second) (fits u.third (10 ^ 15) f.third) =
+      four_true _ _ _ _ h in
+      let date = bytes_read u.date 8 f.date (omega arith) g.0 in
+      let first = bytes_read u.first 9 f.first (omega arith) g.1 in
+      let second = bytes_read u.second 9 f.second (omega arith) g.2 in
+      let third = bytes_read u.third 15 f.third (omega arith) g.3 in
       simp (
-        g.0,
         field_there bytes from_first 1 u.date 8 f.date (omega (arith, long)) refl,
         field_there bytes from_second 9 u.first 9 f.first (omega (arith, long)) at_first,
         field_there bytes from_third 18 u.second 9 f.second (omega (arith, long)) at_second,
@@ -134,9 +128,12 @@ module _ (u : Uses) (f : Fields) (h : fits_all u f ≡ true) where
       )
 
 pub line_reads : (f : Fields) → writable f ≡ true → line_of (line_bytes f) ≡ (0, f)
-unfolding writable line_bytes bytes_under columns_of line_of
-line_reads f h =
-    simp (eq-eqb _ _ (long (uses_of f.letter) f h), eq-eqb _ _ (feed (uses_of f.letter) f h)) (assembled_back (uses_of f.letter) f h)
+unfolding writable fits_all line_bytes bytes_under columns_of line_of
+line_reads f h = go (uses_of f.letter) refl h
+  where
+    go : (o : Option Uses) → uses_of f.letter ≡ o → fits_all o f ≡ true → line_of (line_bytes f) ≡ (0, f)
+    go (Some u) e k = simp (e, eq-eqb _ _ (long u f k), eq-eqb _ _ (feed u f k)) (assembled_back u f k)
+    go None e k = absurd (false≢true k)
 
 -- Read, then written
 
@@ -147,20 +144,20 @@ unfolding field_bytes
 field_written s at u w le h = go u (field_at s at w) refl h
   where
     go : (t : Bool) (x : Field) → field_at s at w ≡ x → proper t x ≡ true → take w (drop at s) ≡ field_bytes t w (number_of x)
-    go true Blank e k = absurd (false≢true k)
-    go true (Number n) e k = number_same s at w n le e
-    go true Bad e k = absurd (false≢true k)
-    go false Blank e k = blank_same s at w le e
-    go false (Number n) e k = absurd (false≢true k)
-    go false Bad e k = absurd (false≢true k)
+    go true (Ok None) e k = absurd (false≢true k)
+    go true (Ok (Some n)) e k = number_same s at w n le e
+    go true (Err _) e k = absurd (false≢true k)
+    go false (Ok None) e k = blank_same s at w le e
+    go false (Ok (Some n)) e k = absurd (false≢true k)
+    go false (Err _) e k = absurd (false≢true k)
 
 proper-fits : (u : Bool) (x : Field) (k : ℕ) → Below x k → proper u x ≡ true → fits u k (number_of x) ≡ true
-proper-fits true Blank k b h = absurd (false≢true h)
-proper-fits true (Number n) k b h = lt-ltb n k b
-proper-fits true Bad k b h = absurd (false≢true h)
-proper-fits false Blank k b h = refl
-proper-fits false (Number n) k b h = absurd (false≢true h)
-proper-fits false Bad k b h = absurd (false≢true h)
+proper-fits true (Ok None) k b h = absurd (false≢true h)
+proper-fits true (Ok (Some n)) k b h = lt-ltb n k b
+proper-fits true (Err _) k b h = absurd (false≢true h)
+proper-fits false (Ok None) k b h = refl
+proper-fits false (Ok (Some n)) k b h = absurd (false≢true h)
+proper-fits false (Err _) k b h = absurd (false≢true h)
 
 module _ (s : List ℕ) where
   abbrev letter : ℕ
@@ -184,22 +181,20 @@ module _ (s : List ℕ) where
   -- the fields are proper under a known letter that uses u
   abbrev Proper : Uses → Type 0
   Proper u =
-      FiveTrue
-      u.known
+      FourTrue
       (proper u.date date_field)
       (proper u.first first_field)
       (proper u.second second_field)
       (proper u.third third_field)
 
-  fields_fit : (u : Uses) → Proper u → fits_all u read ≡ true
+  fields_fit : (u : Uses) → Proper u → fits_all (Some u) read ≡ true
   unfolding fits_all
   fields_fit u g =
       simp (
-        g.0,
-        proper-fits u.date date_field (10 ^ 8) (field_below s 1 8) g.1,
-        proper-fits u.first first_field (10 ^ 9) (field_below s 9 9) g.2,
-        proper-fits u.second second_field (10 ^ 9) (field_below s 18 9) g.3,
-        proper-fits u.third third_field (10 ^ 15) (field_below s 27 15) g.4,
+        proper-fits u.date date_field (10 ^ 8) (field_below s 1 8) g.0,
+        proper-fits u.first first_field (10 ^ 9) (field_below s 9 9) g.1,
+        proper-fits u.second second_field (10 ^ 9) (field_below s 18 9) g.2,
+        proper-fits u.third third_field (10 ^ 15) (field_below s 27 15) g.3,
       )
 
   module _ (long : length s ≡ 43) (feed : get_or s 42 0 ≡ 10) (u : Uses) (g : Proper u) where
@@ -211,12 +206,12 @@ module _ (s : List ℕ) where
 
     reads_third : drop 27 s ≡ field_bytes u.third 15 (number_of third_field) ++ (10 ∷ [])
     reads_third =
-        part_followed s _ 27 15 42 refl (field_written s 27 u.third 15 (omega (arith, long)) g.4)
+        part_followed s _ 27 15 42 refl (field_written s 27 u.third 15 (omega (arith, long)) g.3)
         ∙ ap (λ (l : List ℕ). field_bytes u.third 15 (number_of third_field) ++ l) from-feed
 
     reads_second : drop 18 s ≡ field_bytes u.second 9 (number_of second_field) ++ (field_bytes u.third 15 (number_of third_field) ++ (10 ∷ []))
     reads_second =
-        part_followed s _ 18 9 27 refl (field_written s 18 u.second 9 (omega (arith, long)) g.3)
+        part_followed s _ 18 9 27 refl (field_written s 18 u.second 9 (omega (arith, long)) g.2)
         ∙ ap (λ (l : List ℕ). field_bytes u.second 9 (number_of second_field) ++ l) reads_third
 
     bytes_same : s ≡ bytes_under u read
@@ -224,9 +219,9 @@ module _ (s : List ℕ) where
     bytes_same =
         drop-cons s 0 0 (omega (arith, long))
         ∙ ap (λ (l : List ℕ). letter ∷ l)
-        (part_followed s _ 1 8 9 refl (field_written s 1 u.date 8 (omega (arith, long)) g.1)
+        (part_followed s _ 1 8 9 refl (field_written s 1 u.date 8 (omega (arith, long)) g.0)
         ∙ ap (λ (l : List ℕ). field_bytes u.date 8 (number_of date_field) ++ l)
-        (part_followed s _ 9 9 18 refl (field_written s 9 u.first 9 (omega (arith, long)) g.2)
+        (part_followed s _ 9 9 18 refl (field_written s 9 u.first 9 (omega (arith, long)) g.1)
         ∙ ap (λ (l : List ℕ). field_bytes u.first 9 (number_of first_field) ++ l) reads_second))
 
 -- the fields fit a line, which has the bytes s
@@ -239,29 +234,30 @@ refused f h =
     absurd (omega arith)
 
 pub line_written : (s : List ℕ) (f : Fields) → line_of s ≡ (0, f) → WrittenAs s f
-unfolding line_of columns_of assembled_of writable line_bytes
+unfolding line_of columns_of assembled_of writable fits_all line_bytes
 line_written s f h =
-    go (eqb (length s) 43) (eqb (get_or s 42 0) 10) (formed u (field_at s 1 8) (field_at s 9 9) (field_at s 18 9) (field_at s 27 15)) refl refl refl h
+    go (eqb (length s) 43) (eqb (get_or s 42 0) 10) (uses_of (get_or s 0 0)) (formed_under (uses_of (get_or s 0 0))) refl refl refl refl h
   where
-    u : Uses
-    u = uses_of (get_or s 0 0)
+    formed_under : Option Uses → Bool
+    formed_under o = formed o (field_at s 1 8) (field_at s 9 9) (field_at s 18 9) (field_at s 27 15)
 
     none : ℕ × Fields
     none = (malformed_number, no_fields)
 
-    go : (p q k : Bool) → eqb (length s) 43 ≡ p → eqb (get_or s 42 0) 10 ≡ q
-        → formed u (field_at s 1 8) (field_at s 9 9) (field_at s 18 9) (field_at s 27 15) ≡ k
+    go : (p q : Bool) (o : Option Uses) (k : Bool) → eqb (length s) 43 ≡ p → eqb (get_or s 42 0) 10 ≡ q → uses_of (get_or s 0 0) ≡ o
+        → formed_under o ≡ k
         → cond (p && q) (cond k (0, read s) none) none ≡ (0, f)
         → WrittenAs s f
-    go true true true a b c e =
-        let g : Proper s u = five_true _ _ _ _ _ c in
+    go true true (Some u) true a b c d e =
+        let g : Proper s u = four_true _ _ _ _ d in
         subst
         (WrittenAs s)
         (ap (λ (r : ℕ × Fields). r.1) e)
-        (fields_fit s u g, sym (bytes_same s (eqb-true _ _ a) (eqb-true _ _ b) u g))
-    go true true false a b c e = refused f e
-    go true false k a b c e = refused f e
-    go false q k a b c e = refused f e
+        (rw c (fields_fit s u g), rw c (sym (bytes_same s (eqb-true _ _ a) (eqb-true _ _ b) u g)))
+    go true true None true a b c d e = absurd (false≢true d)
+    go true true o false a b c d e = refused f e
+    go true false o k a b c d e = refused f e
+    go false q o k a b c d e = refused f e
 
 -- The theorems
 

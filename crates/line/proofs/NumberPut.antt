@@ -11,14 +11,6 @@ use Rattle.line.specs.Field.{justified}
 use Rattle.line.specs.Write.{number_put}
 
 module _ (b : List ℕ) (at : ℕ) where
-  pub put_nowhere : (n : ℕ) → number_put b at 0 n ≡ b
-  unfolding number_put justified
-  put_nowhere n = either (leb (at + 0) (length b))
-    where
-      either : (t : Bool) → cond t b b ≡ b
-      either true = refl
-      either false = refl
-
   module _ (w n : ℕ) where
     pub put_beyond : length b < at + w → number_put b at w n ≡ b
     unfolding number_put

@@ -1,11 +1,13 @@
 -- The columns of a number, stored from the right to the left.
-use mathlib.Core.Path.{◌≡◌, refl}
-use mathlib.Core.List.{List}
-use Prim.Native.Nat.{ℕ, zero, suc, ◌+◌, ◌-◌, ◌/◌, ◌%◌, ◌<◌}
+use mathlib.Core.Path.{◌≡◌, refl, sym, ap, ◌∙◌}
+use mathlib.Core.List.{List, [], ◌∷◌, ◌++◌, append_assoc}
+use Prim.Native.Nat.{ℕ, zero, suc, ◌+◌, ◌/◌, ◌%◌, ◌≤◌, ◌<◌}
+use borrow.Rule.Slice.PartMut.{put_mid}
 use native.Mathlib.Omega.{arith}
-use lib.ListN.{length, set, length-append}
-use lib.Seq.{sets}
-use Rattle.general_laws.proofs.Stores.{sets_last_first}
+use lib.ListN.{length, set, take, drop, drop_of_length-le, replicate, length-append}
+use lib.Seq.{sets, sets-eq, drop-drop}
+use native.Mathlib.Numerals.{add-one}
+use Rattle.std.proofs.lemmas.List.{drop-set, replicate_more}
 use Rattle.line.specs.Field.{symbol_of, padded, justified}
 
 pub length-padded : (w m : ℕ) → length (padded w m) ≡ w
@@ -18,23 +20,27 @@ unfolding justified
 length-justified zero n = refl
 length-justified (suc w) n = simp (length-append, length-padded w (n / 10)) (omega arith)
 
-pub sets_padded : (l : List ℕ) (i w m : ℕ) → sets l i (padded (suc w) m) ≡ sets (set l (i + w) (symbol_of m)) i (padded w (m / 10))
+-- a column stored before those that stand
+pub padded_back : (l : List ℕ) (i m : ℕ) → i < length l → padded i (m / 10) ++ drop i (set l i (symbol_of m)) ≡ padded (i + 1) m ++ drop (i + 1) l
 unfolding padded
-sets_padded l i w m = sets_last_first (padded w (m / 10)) l i w (symbol_of m) (length-padded w (m / 10))
+padded_back l i m h =
+    let p : padded (i + 1) m ≡ padded i (m / 10) ++ (symbol_of m ∷ []) = rw add-one refl in
+    rw (drop-set l i (symbol_of m) h, p) (sym (append_assoc (padded i (m / 10)) (symbol_of m ∷ []) (drop (i + 1) l)))
 
-pub sets_justified : (l : List ℕ) (i w n : ℕ) → sets l i (justified (suc w) n) ≡ sets (set l (i + w) (48 + n % 10)) i (padded w (n / 10))
+-- the last column stored, before any other
+pub last_back : (l : List ℕ) (w n : ℕ) → length l ≡ w + 1 → padded w (n / 10) ++ drop w (set l w (48 + n % 10)) ≡ justified (w + 1) n
 unfolding justified
-sets_justified l i w n = sets_last_first (padded w (n / 10)) l i w (48 + n % 10) (length-padded w (n / 10))
+last_back l w n e =
+    let p : justified (w + 1) n ≡ padded w (n / 10) ++ ((48 + n % 10) ∷ []) = rw add-one refl in
+    let d : drop (w + 1) l ≡ [] = drop_of_length-le l {i = w + 1} (omega (arith, e)) in
+    rw (drop-set l w (48 + n % 10) (omega (arith, e)), d, p) refl
 
--- the same, as the code counts
-pub padded-down : (l : List ℕ) (at i m : ℕ) → 0 < i → sets l at (padded i m) ≡ sets (set l (at + (i - 1)) (symbol_of m)) at (padded (i - 1) (m / 10))
-padded-down l at zero m h = absurd (omega arith)
-padded-down l at (suc w) m h =
-    let e : suc w - 1 ≡ w = omega arith in
-    rw e (sets_padded l at w m)
+pub spaces : (w : ℕ) → replicate w 32 ≡ padded w 0
+unfolding padded
+spaces zero = refl
+spaces (suc w) = sym (rw add-one at (replicate_more {X = ℕ} w 32)) ∙ ap (λ (l : List ℕ). l ++ (32 ∷ [])) (spaces w)
 
-pub justified-down : (l : List ℕ) (at i n : ℕ) → 0 < i → sets l at (justified i n) ≡ sets (set l (at + (i - 1)) (48 + n % 10)) at (padded (i - 1) (n / 10))
-justified-down l at zero n h = absurd (omega arith)
-justified-down l at (suc w) n h =
-    let e : suc w - 1 ≡ w = omega arith in
-    rw e (sets_justified l at w n)
+-- a part written, as stores
+pub part_stored : (l ys : List ℕ) (at w : ℕ) → length ys ≡ w → at + w ≤ length l → put_mid at w l ys ≡ sets l at ys
+part_stored l ys at w e h =
+    rw (sets-eq ys l at (omega (arith, e)), e, ← drop-drop w at l) (sym (append_assoc (take at l) ys (drop w (drop at l))))

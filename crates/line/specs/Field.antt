@@ -1,7 +1,6 @@
 -- A number field of fixed width (document 01, "Order file"): "Numbers stand right-justified after spaces, without leading zeros (zero is one 0)".
-use Rattle.std.specs.Prelude.{ℕ, zero, suc, ◌+◌, ◌-◌, ◌*◌, ◌/◌, ◌%◌, List, [], ◌∷◌, ◌++◌, Bool, cond, ◌&&◌, get_or, leb, eqb}
-use Rattle.line.specs.declared.field.Field.{Field}
-use Rattle.line.specs.declared.field.Field.TheVariants.{Blank, Number, Bad}
+use Rattle.std.specs.Prelude.{ℕ, zero, suc, ◌+◌, ◌-◌, ◌*◌, ◌/◌, ◌%◌, List, [], ◌∷◌, ◌++◌, Bool, cond, ◌&&◌, get_or, leb, eqb, Option, Some, None, Result, Ok, Err}
+use Rattle.line.specs.declared.Malformed.{Malformed}
 
 -- the byte of a space
 abbrev pub space : ℕ
@@ -17,16 +16,29 @@ is_digit c = leb 48 c && leb c 57
 
 -- Reading
 
+-- what a field's columns are: blank where all are spaces, else its number, bad where they are neither
+abbrev pub Field : Type 0
+Field = Result (Option ℕ) Malformed
+
+abbrev pub blank : Field
+blank = Ok None
+
+abbrev pub number : ℕ → Field
+number n = Ok (Some n)
+
+abbrev pub bad : Field
+bad = Err (record {})
+
 -- the field f with the column c on its right. "right-justified after spaces": a space only before the first digit; "without leading zeros (zero
 -- is one 0)": nothing after a 0 that is the first digit
 abbrev pub step_of : Field → ℕ → Field
-step_of Blank c = cond (eqb c space) Blank (cond (is_digit c) (Number (c - zero_byte)) Bad)
-step_of (Number n) c = cond (eqb n 0) Bad (cond (is_digit c) (Number (n * 10 + (c - zero_byte))) Bad)
-step_of Bad c = Bad
+step_of (Ok None) c = cond (eqb c space) blank (cond (is_digit c) (number (c - zero_byte)) bad)
+step_of (Ok (Some n)) c = cond (eqb n 0) bad (cond (is_digit c) (number (n * 10 + (c - zero_byte))) bad)
+step_of (Err refusal) c = bad
 
--- the field of w columns of s from `at` on: Blank where all are spaces, else Number of its number, Bad where it is neither
+-- the field of w columns of s from `at` on
 unfoldable pub field_at : List ℕ → ℕ → ℕ → Field
-field_at s at zero = Blank
+field_at s at zero = blank
 field_at s at (suc w) = step_of (field_at s at w) (get_or s (at + w) 0)
 
 -- Writing

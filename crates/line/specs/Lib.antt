@@ -1,7 +1,7 @@
--- The definitions that the contracts cite, and the theorems about them. `FieldBelow` is cited by private contracts alone.
+-- The definitions that the contracts cite, and the theorems about them. `FieldUse` is cited by private contracts alone.
 pub mod Field
 pub mod Line
 pub mod Write
-pub mod FieldBelow
+pub mod FieldUse
 pub mod RoundTrip
 pub mod Examples

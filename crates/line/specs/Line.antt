@@ -1,37 +1,34 @@
 -- A line of the order file, and its fields (document 01, "Order file").
-use Rattle.std.specs.Prelude.{ℕ, List, Bool, true, false, cond, not, ◌&&◌, length, get_or, eqb}
+use Rattle.std.specs.Prelude.{ℕ, List, Bool, true, false, cond, not, ◌&&◌, length, get_or, eqb, Option, Some, None, Result, Ok, Err}
+use Rattle.answers.specs.Answers.{stated}
 use Rattle.line.specs.declared.Fields.{Fields}
-use Rattle.line.specs.declared.ReadAnswer.{ReadAnswer}
-use Rattle.line.specs.declared.ReadAnswer.TheVariants.{Read, Malformed}
-use Rattle.line.specs.declared.field.Field.{Field}
-use Rattle.line.specs.declared.field.Field.TheVariants.{Blank, Number, Bad}
+use Rattle.line.specs.declared.Malformed.{Malformed}
 use Rattle.line.specs.declared.line.Uses.{Uses}
-use Rattle.line.specs.Field.{field_at}
+use Rattle.line.specs.Field.{Field, field_at}
 
 -- 21, line: "not as below"
 abbrev pub malformed_number : ℕ
 malformed_number = 21
 
+abbrev pub refusal_number : Malformed → ℕ
+refusal_number refusal = malformed_number
+
 -- "A refusal gives back its number, with 0 in every other field"
 abbrev pub no_fields : Fields
 no_fields = record { letter = 0; date = 0; first = 0; second = 0; third = 0 }
 
--- number and values of each case
-abbrev pub read_stated : ReadAnswer → ℕ × Fields
-read_stated (Read f) = (0, f)
-read_stated Malformed = (malformed_number, no_fields)
+-- number and fields of an answer
+abbrev pub read_stated : Result Fields Malformed → ℕ × Fields
+read_stated = stated refusal_number no_fields
 
 -- The letters and the fields they use
 
-abbrev pub uses : (date first second third : Bool) → Uses
-uses date first second third = record { known = true; date = date; first = first; second = second; third = third }
-
-abbrev pub unknown : Uses
-unknown = record { known = false; date = false; first = false; second = false; third = false }
+abbrev pub uses : (date first second third : Bool) → Option Uses
+uses date first second third = Some (record { date = date; first = first; second = second; third = third })
 
 -- "O: date, term, rate, cents. F: first = holder, third = share. D: date. R: date, third = rate. T: cedent, assignee, share. S: third = cents.
 -- E: third = lines before it.", by the letter's byte: 79 is O, 70 F, 68 D, 82 R, 84 T, 83 S, 69 E
-unfoldable pub uses_of : ℕ → Uses
+unfoldable pub uses_of : ℕ → Option Uses
 uses_of l =
     cond (eqb l 79) (uses true true true true)
     (cond (eqb l 70) (uses false true false true)
@@ -39,32 +36,33 @@ uses_of l =
     (cond (eqb l 82) (uses true false false true)
     (cond (eqb l 84) (uses false true true true)
     (cond (eqb l 83) (uses false false false true)
-    (cond (eqb l 69) (uses false false false true) unknown))))))
+    (cond (eqb l 69) (uses false false false true) None))))))
 
 -- "an unused field is all spaces, a used one never"
 abbrev pub proper : Bool → Field → Bool
-proper used Blank = not used
-proper used (Number n) = used
-proper used Bad = false
+proper used (Ok None) = not used
+proper used (Ok (Some n)) = used
+proper used (Err refusal) = false
 
 -- a field's number, 0 where it has none
 abbrev pub number_of : Field → ℕ
-number_of Blank = 0
-number_of (Number n) = n
-number_of Bad = 0
+number_of (Ok None) = 0
+number_of (Ok (Some n)) = n
+number_of (Err refusal) = 0
 
 -- What is read
 
 -- a known letter, which uses u, and four fields proper under it
-abbrev pub formed : Uses → (date first second third : Field) → Bool
-formed u date first second third =
-    u.known && (proper u.date date && (proper u.first first && (proper u.second second && proper u.third third)))
+abbrev pub formed : Option Uses → (date first second third : Field) → Bool
+formed None date first second third = false
+formed (Some u) date first second third =
+    proper u.date date && (proper u.first first && (proper u.second second && proper u.third third))
 
 abbrev pub fields_from : ℕ → (date first second third : Field) → Fields
 fields_from l date first second third =
     record { letter = l; date = number_of date; first = number_of first; second = number_of second; third = number_of third }
 
-unfoldable pub assembled_of : ℕ → Uses → (date first second third : Field) → ℕ × Fields
+unfoldable pub assembled_of : ℕ → Option Uses → (date first second third : Field) → ℕ × Fields
 assembled_of l u date first second third =
     cond (formed u date first second third) (0, fields_from l date first second third) (malformed_number, no_fields)
 

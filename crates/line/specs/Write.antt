@@ -1,17 +1,16 @@
 -- The line that is written for given fields, and a number put into its columns (document 01, "Order file").
-use Rattle.std.specs.Prelude.{ℕ, ◌+◌, ◌^◌, List, [], ◌∷◌, ◌++◌, Bool, true, false, cond, ◌&&◌, length, drop, ltb, leb, eqb}
+use Rattle.std.specs.Prelude.{ℕ, ◌+◌, ◌^◌, List, [], ◌∷◌, ◌++◌, Bool, true, false, cond, ◌&&◌, length, drop, ltb, leb, eqb, Option, Some, None, Result}
 use Rattle.std.proofs.lemmas.List.Edits.{sets}
+use Rattle.answers.specs.Answers.{number_in}
 use Rattle.line.specs.declared.Fields.{Fields}
-use Rattle.line.specs.declared.WriteAnswer.{WriteAnswer}
-use Rattle.line.specs.declared.WriteAnswer.TheVariants.{Written, Malformed}
+use Rattle.line.specs.declared.Malformed.{Malformed}
 use Rattle.line.specs.declared.line.Uses.{Uses}
 use Rattle.line.specs.Field.{padded, justified}
-use Rattle.line.specs.Line.{malformed_number, uses_of}
+use Rattle.line.specs.Line.{malformed_number, refusal_number, uses_of}
 
--- the number of each case
-abbrev pub write_stated : WriteAnswer → ℕ
-write_stated Written = 0
-write_stated Malformed = malformed_number
+-- an answer's number
+abbrev pub write_stated : Result Unit Malformed → ℕ
+write_stated = number_in refusal_number
 
 -- a used field is not "too wide" below its limit, and "an unused field not 0" is refused
 abbrev pub fits : Bool → ℕ → ℕ → Bool
@@ -19,12 +18,12 @@ fits true limit n = ltb n limit
 fits false limit n = eqb n 0
 
 -- no "unknown letter", and the fields fit their 8, 9, 9 and 15 columns, under a letter that uses u
-unfoldable pub fits_all : Uses → Fields → Bool
-fits_all u f =
-    u.known
-    && (fits u.date (10 ^ 8) f.date
+unfoldable pub fits_all : Option Uses → Fields → Bool
+fits_all None f = false
+fits_all (Some u) f =
+    fits u.date (10 ^ 8) f.date
     && (fits u.first (10 ^ 9) f.first
-    && (fits u.second (10 ^ 9) f.second && fits u.third (10 ^ 15) f.third)))
+    && (fits u.second (10 ^ 9) f.second && fits u.third (10 ^ 15) f.third))
 
 unfoldable pub writable : Fields → Bool
 writable f = fits_all (uses_of f.letter) f
@@ -41,9 +40,14 @@ bytes_under u f =
     ∷ (field_bytes u.date 8 f.date
     ++ (field_bytes u.first 9 f.first ++ (field_bytes u.second 9 f.second ++ (field_bytes u.third 15 f.third ++ (10 ∷ [])))))
 
+-- the fields that a letter uses: none where it is unknown
+abbrev pub used_in : Option Uses → Uses
+used_in None = record { date = false; first = false; second = false; third = false }
+used_in (Some u) = u
+
 -- the line's 43 bytes
 unfoldable pub line_bytes : Fields → List ℕ
-line_bytes f = bytes_under (uses_of f.letter) f
+line_bytes f = bytes_under (used_in (uses_of f.letter)) f
 
 -- "The writer puts the line for given fields in the buffer's first 43 bytes and leaves the rest. It gives 21, the buffer untouched, for an
 -- unknown letter, a field too wide, an unused field not 0, or a shorter buffer.": its number, and the buffer afterwards

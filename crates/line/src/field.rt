@@ -1,71 +1,62 @@
 // A number field of fixed width, read column by column from the left and written from the right.
-ghost use Rattle.std.specs.Prelude.{◌≡◌, ◌+◌, ◌≤◌, ◌<◌, length, get_or};
-ghost use Rattle.std.proofs.lemmas.List.Edits.{sets};
-ghost use Rattle.line.specs.declared.field.Field.TheVariants.{Blank};
-ghost use Rattle.line.specs.Field.{space, field_at, symbol_of, padded, justified};
+ghost use Rattle.std.specs.Prelude.{◌≡◌, ◌≤◌, ◌^◌, ◌<◌, length, get_or, not, eqb, position, IfOk};
+ghost use Rattle.line.specs.Field.{space, field_at, symbol_of, justified};
+ghost use Rattle.line.specs.Write.{field_bytes};
+ghost use Rattle.line.specs.FieldUse.{used_number};
 
-// What a field's columns are.
-#[derive(Clone, Copy)]
-pub enum Field {
-    Blank,
-    Number(u64),
-    Bad,
+use crate::Malformed;
+
+// The first column that isn't a space.
+pub fn first_filled(columns: &[u8]) -> Option<usize>
+    ensures { result ≡ position (λ column. not (eqb column 32)) columns.now }
+{
+    columns.iter().position(|&column| column != b' ')
 }
 
-// How many of the `width` columns from `at` on are spaces, before the first other byte.
-pub fn blanks(s: &[u8], at: usize, width: usize) -> usize
-    requires { at + width ≤ length s.now }
-    ensures { (result ≤ width) × (field_at s.now at result ≡ Blank) × (result < width → get_or s.now (at + result) 0 ≡ space → ⊥) }
+// The field of columns that don't begin with a space: digits up to its end, without a leading 0.
+pub fn read_digits(digits: &[u8]) -> Result<Option<u64>, Malformed>
+    requires { (0 < length digits.now) × (length digits.now ≤ 18) × (get_or digits.now 0 0 ≡ space → ⊥) }
+    ensures { result ≡ field_at digits.now 0 (length digits.now) }
 {
-    let mut i = 0;
-    while i < width {
-        if s[at + i] != b' ' {
-            return i;
-        }
-        i += 1;
-    }
-    i
-}
-
-// The field of `width` columns from `at` on whose first `from` are spaces and the next one isn't: digits up to its end, without a leading 0.
-#[tactic(auto, using(crate::proofs::FieldReading::zero_read))]
-pub fn digits(s: &[u8], at: usize, from: usize, width: usize) -> Field
-    requires width_in_bounds { (at + width ≤ length s.now) × (width ≤ 18) × (from < width) }
-    requires from_value { (field_at s.now at from ≡ Blank) × (get_or s.now (at + from) 0 ≡ space → ⊥) }
-    ensures { result ≡ field_at s.now at width }
-{
-    if s[at + from] == b'0' {
-        if from + 1 < width {
-            return Field::Bad;
-        }
-        return Field::Number(0);
+    if digits[0] == b'0' {
+        return if digits.len() == 1 {
+            Ok(Some(0))
+        } else {
+            Err(Malformed)
+        };
     }
     let mut n = 0;
-    let mut i = from;
-    while i < width {
-        let c = s[at + i];
-        if c < b'0' {
-            return Field::Bad;
+    for &digit in digits {
+        if !digit.is_ascii_digit() {
+            return Err(Malformed);
         }
-        if b'9' < c {
-            return Field::Bad;
-        }
-        n = n * 10 + (c - b'0') as u64;
-        i += 1;
+        n = n * 10 + (digit - b'0') as u64;
     }
-    Field::Number(n)
+    Ok(Some(n))
 }
 
-// The field of `width` columns from `at` on.
-pub fn read_field(s: &[u8], at: usize, width: usize) -> Field
-    requires { (at + width ≤ length s.now) × (width ≤ 18) }
-    ensures { result ≡ field_at s.now at width }
+// The field of its columns: None where all are spaces, else its number.
+pub fn read_field(columns: &[u8]) -> Result<Option<u64>, Malformed>
+    requires { length columns.now ≤ 18 }
+    ensures { result ≡ field_at columns.now 0 (length columns.now) }
 {
-    let from = blanks(s, at, width);
-    if from == width {
-        return Field::Blank;
+    match first_filled(columns) {
+        Some(first) => read_digits(&columns[first..]),
+        None => Ok(None),
     }
-    digits(s, at, from, width)
+}
+
+// The number of a used field, or 0 of an unused one, which is all spaces.
+pub fn read_number(columns: &[u8], used: bool) -> Result<u64, Malformed>
+    requires { length columns.now ≤ 18 }
+    ensures value { result ≡ used_number used (field_at columns.now 0 (length columns.now)) }
+    ensures below { IfOk result (λ n. n < 10 ^ length columns.now) }
+{
+    match read_field(columns)? {
+        Some(n) if used => Ok(n),
+        None if !used => Ok(0),
+        _ => Err(Malformed),
+    }
 }
 
 // The last digit of m, or a space where m is 0: a column left of the last one.
@@ -78,29 +69,29 @@ pub fn symbol(m: u64) -> u8
     b'0' + (m % 10) as u8
 }
 
-// Writes n into the `width` columns from `at` on, right-justified.
-pub fn write_number(buf: &mut [u8], at: usize, width: usize, n: u64)
-    requires { (at + width ≤ length buf.old) × (0 < width) }
-    ensures { buf.new ≡ sets buf.old at (justified width n) }
+// Writes n into its columns, right-justified.
+pub fn write_number(columns: &mut [u8], n: u64)
+    ensures { columns.new ≡ justified (length columns.old) n }
 {
-    let mut i = width - 1;
-    buf[at + i] = b'0' + (n % 10) as u8;
+    let width = columns.len();
+    if width == 0 {
+        return;
+    }
+    columns[width - 1] = b'0' + (n % 10) as u8;
     let mut m = n / 10;
-    while 0 < i {
-        i -= 1;
-        buf[at + i] = symbol(m);
-        m = m / 10;
+    for i in (0..width - 1).rev() {
+        columns[i] = symbol(m);
+        m /= 10;
     }
 }
 
-// Writes spaces into the `width` columns from `at` on.
-pub fn write_spaces(buf: &mut [u8], at: usize, width: usize)
-    requires { at + width ≤ length buf.old }
-    ensures { buf.new ≡ sets buf.old at (padded width 0) }
+// Writes a used field's number into its columns, or spaces for an unused one.
+pub fn write_field(columns: &mut [u8], used: bool, n: u64)
+    ensures { columns.new ≡ field_bytes used (length columns.old) n }
 {
-    let mut i = width;
-    while 0 < i {
-        i -= 1;
-        buf[at + i] = b' ';
+    if used {
+        write_number(columns, n);
+    } else {
+        columns.fill(b' ');
     }
 }

@@ -6,15 +6,16 @@ mod line;
 mod write;
 
 ghost use Rattle.std.specs.Prelude.{◌≡◌};
-ghost use Rattle.line.specs.Line.{read_stated};
-ghost use Rattle.line.specs.Write.{write_stated};
+ghost use Rattle.line.specs.Line.{refusal_number};
 ghost use Rattle.line.specs.RoundTrip.{RoundTrip};
 ghost use Rattle.line.specs.Examples.{Examples};
 
 pub use crate::line::read_line;
 pub use crate::write::{put_number, write_line};
+use answers::Numbered;
 
-// A line's fields: the letter's byte, the date and the three numbers. One that the letter doesn't use is 0.
+// A line's fields: the letter's byte, the date and the three numbers. One that the letter doesn't use is 0. The letter is a byte and no enum, as C
+// programs give and get it, and a writer is given any.
 #[derive(Clone, Copy)]
 pub struct Fields {
     pub letter: u8,
@@ -24,44 +25,20 @@ pub struct Fields {
     pub third: u64,
 }
 
-#[derive(Clone, Copy)]
-pub enum ReadAnswer {
-    Read(Fields),
-    Malformed,
-}
+// The refusal of a line that is not in its form, and of a buffer that is too short.
+#[derive(Clone, Copy, Debug, PartialEq, Eq)]
+pub struct Malformed;
 
-impl ReadAnswer {
-    // Its number in document 01's table, 0 for a line.
-    pub fn number(self) -> u32
-        ensures { result ≡ (read_stated self).0 }
-    {
-        match self {
-            ReadAnswer::Read(_) => 0,
-            ReadAnswer::Malformed => MALFORMED,
-        }
-    }
-}
-
-#[derive(Clone, Copy)]
-pub enum WriteAnswer {
-    Written,
-    Malformed,
-}
-
-impl WriteAnswer {
-    // Its number in document 01's table, 0 for a line.
-    pub fn number(self) -> u32
-        ensures { result ≡ write_stated self }
-    {
-        match self {
-            WriteAnswer::Written => 0,
-            WriteAnswer::Malformed => MALFORMED,
-        }
-    }
-}
-
-// The number of a line that is not in its form, and of a buffer that is too short.
+// Its number in document 01's table.
 pub const MALFORMED: u32 = 21;
+
+impl Numbered for Malformed {
+    ghost number = { refusal_number };
+
+    fn number(self) -> u32 {
+        MALFORMED
+    }
+}
 
 // 42 columns and a line feed.
 pub const LINE_BYTES: usize = 43;

@@ -9,8 +9,13 @@ use native.Mathlib.Numerals.{add-one, unary_clauses}
 use native.Mathlib.Omega.{arith}
 use lib.Dec.{eqb}
 use lib.ListN.{length, get_or, take, drop, length-drop, drop_of_length-le}
-use lib.Seq.{drop-cons, drop-drop, get_or-take, get_or-drop}
-use borrow.Author.Tests.{eq-eqb, ne_eqb}
+use lib.Seq.{drop-drop, get_or-take, get_or-drop}
+use borrow.Author.Tests.{eq-eqb}
+use Rattle.std.specs.Prelude.{Some, None, position}
+use Rattle.std.specs.List.{position_or_len}
+use Rattle.std.proofs.lemmas.Grind.{common_steps}
+use Rattle.std.proofs.lemmas.List.Quantifiers.{position-Some}
+use Rattle.std.proofs.lemmas.List.Sums.{fails_before_first}
 use Rattle.lines.specs.Lines.{joined, lines, line_length, line_at, end_of, start_of, line_start, part_of}
 
 -- The first line's length
@@ -33,6 +38,30 @@ line_length_some (x ∷ s) h = by_byte (eqb x 10)
     by_byte true = omega arith
     by_byte false = omega arith
 
+-- up to the first line feed, or the whole where there is none
+pub length_to_feed : (s : List ℕ) (k : ℕ) → position (λ x. eqb x 10) s ≡ Some k → line_length s ≡ k + 1
+unfolding line_length
+length_to_feed s k e =
+    let p = position-Some (λ (x : ℕ). eqb x 10) s k 0 e in
+    go s k p.0 p.1 p.2
+  where
+    go : (s : List ℕ) (k : ℕ) → k < length s → eqb (get_or s k 0) 10 ≡ true → ((i : ℕ) → i < k → eqb (get_or s i 0) 10 ≡ false) → line_length s ≡ k + 1
+    go [] k h e n = absurd (omega arith)
+    go (x ∷ s) zero h e n = rw e refl
+    go (x ∷ s) (suc k) h e n =
+        let ih = go s k (omega arith) e (λ i l. n (suc i) (omega arith)) in
+        rw (n 0 (omega arith)) (omega (arith, ih))
+
+pub length_whole : (s : List ℕ) → position (λ x. eqb x 10) s ≡ None → line_length s ≡ length s
+unfolding line_length
+length_whole s e =
+    let whole : length s ≤ position_or_len (λ (x : ℕ). eqb x 10) s = grind (arith, common_steps) in
+    go s (λ i h. fails_before_first (λ (x : ℕ). eqb x 10) s i 0 (omega arith))
+  where
+    go : (s : List ℕ) → ((i : ℕ) → i < length s → eqb (get_or s i 0) 10 ≡ false) → line_length s ≡ length s
+    go [] n = refl
+    go (x ∷ s) n = rw (n 0 (omega arith)) (ap suc (go s (λ i h. n (suc i) (omega arith))))
+
 -- The end of the line at a position
 
 pub end-within : (s : List ℕ) (at : ℕ) → at ≤ length s → end_of s at ≤ length s
@@ -41,18 +70,18 @@ end-within s at h = omega (arith, line_length_within (drop at s), length-drop at
 pub end-past : (s : List ℕ) (at : ℕ) → at < length s → at < end_of s at
 end-past s at h = omega (arith, line_length_some (drop at s) (rw length-drop (omega arith)))
 
--- a line feed ends the line, another byte doesn't, and beyond the last byte nothing is left
-pub end-feed : (s : List ℕ) (at : ℕ) → at < length s → get_or s at 0 ≡ 10 → end_of s at ≡ at + 1
-unfolding line_length
-end-feed s at h e = rw (drop-cons s at 0 h, eq-eqb _ _ e)
-
-pub end-other : (s : List ℕ) (at : ℕ) → at < length s → (get_or s at 0 ≡ 10 → ⊥) → end_of s at ≡ end_of s (at + 1)
-unfolding line_length
-end-other s at h n = rw (add-one, drop-cons s at 0 h, ne_eqb _ _ n) (omega arith)
-
+-- beyond the last byte nothing is left
 pub end_beyond : (s : List ℕ) (at : ℕ) → length s ≤ at → end_of s at ≡ at
 unfolding line_length
 end_beyond s at h = rw (drop_of_length-le s h) (omega arith)
+
+-- and stays below what the position and the file's length stay below
+pub end-below : (s : List ℕ) (at k : ℕ) → at < k → length s < k → end_of s at < k
+end-below s at k h l = go (dec_lt (length s) at)
+  where
+    go : Dec (length s < at) → end_of s at < k
+    go (yes b) = omega (arith, end_beyond s at (omega arith))
+    go (no b) = omega (arith, end-within s at (omega arith))
 
 -- The line at a position
 

@@ -5,7 +5,8 @@ mod settling;
 
 use crate::settling::taken_often;
 use book::Cents;
-use report::Reported;
+use cases::Cases;
+use report::{BYTES, report};
 use std::io;
 
 // The most bytes of the input.
@@ -14,57 +15,30 @@ const INPUT: usize = 65536;
 // The most digits of a number of cents.
 const DIGITS: usize = 12;
 
-// Whether a text begins with a digit, as no order does.
-fn begins_with_digit(text: &[u8]) -> bool {
-    if text.len() == 0 {
-        return false;
-    }
-    if text[0] < b'0' {
-        return false;
-    }
-    text[0] <= b'9'
-}
-
-// The statement, as the program `statement` prints it.
+// The statement, as the program `statement` prints it: a program is no library, and one for these lines would be longer than they are.
 fn put_statement(rt: &impl Print, file: &[u8]) {
-    let mut out = [0u8; Reported::BYTES];
-    match report::report(file, &mut out) {
-        Reported::Printed(count) => {
-            let _ = rt.write_all(&out[..count]);
-        }
-        Reported::Short => {}
+    let mut out = [0u8; BYTES];
+    if let Ok(count) = report(file, &mut out) {
+        let _ = rt.write_all(&out[..count]);
     }
 }
 
-// Whether at most 12 bytes of a text stand before a position, where it ends or has a line feed.
-fn ends_at(text: &[u8], end: usize) -> bool {
-    if DIGITS < end {
-        return false;
+// What the settlements took, by the number of cents that the input has in its first line; nothing where something else stands there.
+fn put_settlements(rt: &impl Print, input: &mut Cases) {
+    let cents = Cents(input.number());
+    if input.at <= DIGITS && matches!(input.text.get(input.at), None | Some(b'\n')) {
+        let _ = println!(rt; "{}", taken_often(cents));
     }
-    if text.len() <= end {
-        return true;
-    }
-    text[end] == b'\n'
 }
 
-// What the settlements took, by the number of cents that a text has in its first line; nothing where something else stands there.
-fn put_settlements(rt: &impl Print, text: &[u8]) {
-    let number = cases::number_at(text, 0);
-    let end = number.next;
-    if !ends_at(text, end) {
-        return;
-    }
-    let sum = taken_often(Cents(number.value));
-    cases::put(rt, sum, b'\n');
-}
-
+// An input that begins with a digit, as no order does, is a number of cents.
 fn main(rt: HostRuntime) -> io::Result<()> {
-    let mut file = [0u8; INPUT];
-    let n = cases::read_full(&mut rt.stdin(), &mut file)?;
-    if begins_with_digit(&file[..n]) {
-        put_settlements(&rt, &file[..n]);
+    let mut buffer = [0u8; INPUT];
+    let mut input = Cases::read(&mut rt.stdin(), &mut buffer)?;
+    if matches!(input.text.first(), Some(b'0'..=b'9')) {
+        put_settlements(&rt, &mut input);
     } else {
-        put_statement(&rt, &file[..n]);
+        put_statement(&rt, input.text);
     }
     Ok(())
 }

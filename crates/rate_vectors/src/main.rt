@@ -1,7 +1,8 @@
 // Prints the daily rate of each annual rate, and of some that are refused: ANNUAL NUMBER DAILY.
 #![tactic(auto)]
 
-use rates::DailyRate;
+use answers::number_of;
+use rates::daily_rate;
 
 // Annual rates over the greatest.
 const REFUSED: [u64; 7] = [
@@ -16,29 +17,15 @@ const REFUSED: [u64; 7] = [
 
 // The line of an annual rate.
 fn put_rate(rt: &impl Print, annual: u64) {
-    cases::put(rt, annual, b' ');
-    let answer = rates::daily_rate(annual);
-    cases::put(rt, answer.number() as u64, b' ');
-    match answer {
-        DailyRate::Daily(daily) => cases::put(rt, daily, b'\n'),
-        DailyRate::Refused => cases::put(rt, 0, b'\n'),
-    }
-}
-
-// The lines of the refused rates.
-fn put_refused(rt: &impl Print) {
-    let mut i: usize = 0;
-    while i < 7 {
-        put_rate(rt, REFUSED[i]);
-        i += 1;
-    }
+    let daily = daily_rate(annual);
+    let _ = println!(rt; "{annual} {} {}", number_of(daily), daily.unwrap_or(0));
 }
 
 fn main(rt: HostRuntime) {
-    let mut annual: u64 = 0;
-    while annual <= rates::GREATEST {
+    for annual in 0..=rates::GREATEST {
         put_rate(&rt, annual);
-        annual += 1;
     }
-    put_refused(&rt);
+    for annual in REFUSED {
+        put_rate(&rt, annual);
+    }
 }

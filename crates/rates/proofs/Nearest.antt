@@ -1,10 +1,10 @@
 -- The daily rate is the whole number nearest to the exact rate, which is never half-way between two.
 use mathlib.Core.Path.{◌≡◌, sym, ◌∙◌, ap}
 use mathlib.Core.Logic.{◌≢◌}
-use Prim.Native.Nat.{ℕ, suc, ◌+◌, ◌-◌, ◌*◌, ◌%◌, ◌^◌, ◌≤◌, ◌<◌}
-use native.Mathlib.Nat.{le_antisymm, mul_assoc, mul-mod_right}
+use Prim.Native.Nat.{ℕ, suc, ◌+◌, ◌-◌, ◌*◌, ◌%◌, ◌^◌, ◌<◌}
+use native.Mathlib.Nat.{mul_assoc, mul-mod_right}
+use native.Mathlib.Numerals.{lt_of_le_of_ne}
 use native.Mathlib.Omega.{arith}
-use Rattle.general_laws.proofs.Choice.{by_order}
 use Rattle.general_laws.proofs.Powers.{odd_power}
 use Rattle.rates.specs.Rate.{growth, limit, daily_of}
 use Rattle.rates.specs.Exact.{exact_year}
@@ -31,14 +31,11 @@ limit_not_odd i m e =
 pub no_tie : (i d : ℕ) → 2 ^ 365 * exact_year i ≢ (2 * (10 ^ 10 + d) + 1) ^ 365
 no_tie i d = limit_not_odd i (10 ^ 10 + d)
 
-lt_of_le_ne : {a b : ℕ} → a ≤ b → b ≢ a → a < b
-lt_of_le_ne {a} {b} le ne = by_order a b (λ lt. lt) (λ ge. absurd (ne (le_antisymm ge le)))
-
 over_half_below : (i : ℕ) → (2 * (10 ^ 10 + daily_of i) - 1) ^ 365 < 2 ^ 365 * exact_year i
 over_half_below i =
     let d = daily_of i in
     let odd : 2 * (10 ^ 10 + d) - 1 ≡ 2 * (9999999999 + d) + 1 = omega arith in
-    lt_of_le_ne (rw (sym (growth-is d), sym (limit_is i)) (within_le i d (meets i))) (λ e. limit_not_odd i (9999999999 + d) (e ∙ ap (λ (x : ℕ). x ^ 365) odd))
+    lt_of_le_of_ne (rw (sym (growth-is d), sym (limit_is i)) (within_le i d (meets i))) (λ e. limit_not_odd i (9999999999 + d) (sym e ∙ ap (λ (x : ℕ). x ^ 365) odd))
 
 under_half_above : (i : ℕ) → 2 ^ 365 * exact_year i < (2 * (10 ^ 10 + daily_of i) + 1) ^ 365
 under_half_above i = rw (sym (next_growth_is (daily_of i)), sym (limit_is i)) (next_beyond i)

@@ -1,9 +1,9 @@
 -- The daily rate of an annual rate (document 01, "Daily rate", and document 02, Req 02): "For an annual rate i from 0 to 4,000 the daily rate d
 -- counts units of 1/10^10"; "A daily rate becomes the largest d with (2 × 10^10 + 2d − 1)^365 ≤ 2^365 × (100,000 + i) × 10^3645, for i above 0;
 -- for i = 0 it stays 0."
-use Rattle.std.specs.Prelude.{Bool, cond, ℕ, zero, suc, ◌+◌, ◌-◌, ◌*◌, ◌^◌, eqb, leb}
-use Rattle.rates.specs.declared.DailyRate.{DailyRate}
-use Rattle.rates.specs.declared.DailyRate.TheVariants.{Daily, Refused}
+use Rattle.std.specs.Prelude.{Bool, cond, ℕ, zero, suc, ◌+◌, ◌-◌, ◌*◌, ◌^◌, eqb, leb, Result}
+use Rattle.answers.specs.Answers.{stated}
+use Rattle.rates.specs.declared.OverGreatest.{OverGreatest}
 
 -- (2 × 10^10 + 2d − 1)^365: 2^365 times a year at half a unit less than d
 abbrev pub growth : ℕ → ℕ
@@ -35,9 +35,8 @@ abbrev pub rate_number : ℕ
 rate_number = 6
 
 -- the number of document 01's table and the value, for each case of the answer
-abbrev pub rate_stated : DailyRate → ℕ × ℕ
-rate_stated (Daily d) = (0, d)
-rate_stated Refused = (rate_number, 0)
+abbrev pub rate_stated : Result ℕ OverGreatest → ℕ × ℕ
+rate_stated = stated (λ _. rate_number) 0
 
 -- what is answered
 unfoldable pub rate_of : ℕ → ℕ × ℕ

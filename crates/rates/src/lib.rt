@@ -4,11 +4,12 @@
 mod table;
 
 ghost use Rattle.std.specs.Prelude.{◌≡◌};
-ghost use Rattle.rates.specs.Rate.{rate_of, rate_stated};
+ghost use Rattle.rates.specs.Rate.{rate_number, rate_of, rate_stated};
 ghost use Rattle.rates.specs.Laws.{Laws};
 ghost use Rattle.rates.specs.Examples.{Examples};
 
 use crate::table::DAILY;
+use answers::Numbered;
 
 // The greatest annual rate, in thousandths of a percent.
 pub const GREATEST: u64 = 4000;
@@ -19,34 +20,27 @@ pub const GREATEST_DAILY: u64 = 1074598;
 // The number of an annual rate over the greatest.
 pub const OVER: u32 = 6;
 
-// A daily rate, in units of 1/10^10.
-#[derive(Clone, Copy)]
-pub enum DailyRate {
-    Daily(u64),
-    Refused,
-}
+// The refusal of an annual rate over the greatest.
+#[derive(Clone, Copy, Debug, PartialEq, Eq)]
+pub struct OverGreatest;
 
-impl DailyRate {
-    // Its number in document 01's table, 0 for a rate.
-    pub fn number(self) -> u32
-        ensures { result ≡ (rate_stated self).0 }
-    {
-        match self {
-            DailyRate::Daily(_) => 0,
-            DailyRate::Refused => OVER,
-        }
+impl Numbered for OverGreatest {
+    ghost number = { λ _. rate_number };
+
+    fn number(self) -> u32 {
+        OVER
     }
 }
 
-pub fn daily_rate(annual: u64) -> DailyRate
+// The daily rate of an annual one, in units of 1/10^10.
+#[tactic(auto, unfolding(crate::specs::Rate::rate_of))]
+pub fn daily_rate(annual: u64) -> Result<u64, OverGreatest>
     ensures { rate_stated result ≡ rate_of annual }
 {
     if GREATEST < annual {
-        return DailyRate::Refused;
+        return Err(OverGreatest);
     }
-    let i = annual as usize;
-    let daily = DAILY[i];
-    DailyRate::Daily(daily as u64)
+    Ok(DAILY[annual as usize] as u64)
 }
 
 // What callers may rely on of daily rates, and the worked examples of the papers that speak of them alone. It does nothing.

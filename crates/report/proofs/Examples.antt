@@ -3,9 +3,10 @@ use Prim.Native.Nat.{ℕ}
 use mathlib.Core.Path.{◌≡◌, refl, ap, ◌∙◌}
 use mathlib.Core.List.{List, [], ◌++◌}
 use Rattle.account.specs.declared.Account.{Account}
+use Rattle.book_model.specs.declared.Totals.{Totals}
 use Rattle.book_model.specs.declared.Position.{Position}
 use Rattle.book_model.specs.Book.{empty_book, held}
-use Rattle.book_model.specs.Outcome.{Totals, answered}
+use Rattle.book_model.specs.Outcome.{answered}
 use Rattle.book_model.specs.Read.{totals_of}
 use Rattle.line.specs.Field.{padded, justified}
 use Rattle.file_model.specs.Examples.{paper_file, loaded}

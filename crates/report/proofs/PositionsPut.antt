@@ -1,36 +1,16 @@
 -- The lines of a book's positions, put one by one.
 use mathlib.Core.Path.{◌≡◌, refl, sym, ap, ◌∙◌}
-use mathlib.Core.Bool.{true}
 use mathlib.Core.List.{List, [], ◌∷◌, ◌++◌, append-nil, append_assoc}
 use Prim.Native.Nat.{ℕ, ◌+◌, ◌*◌, ◌≤◌, ◌<◌}
 use native.Mathlib.Numerals.{add-one}
 use native.Mathlib.Omega.{arith}
 use lib.ListN.{length, get_or, take}
-use lib.Seq.{sets, length-sets, get_or-take, length-take-le, take_all, take-suc}
-use Rattle.book_model.specs.declared.Book.{Book}
+use lib.Seq.{sets, length-sets, length-take-le, take_all, take-suc}
 use Rattle.book_model.specs.declared.Position.{Position}
-use Rattle.book_model.specs.Book.{held}
 use Rattle.book_model.specs.Outcome.{no_position}
-use Rattle.book_model.specs.Reached.{Reached}
 use Rattle.general_laws.proofs.Stores.{sets_append}
-use Rattle.book_model.proofs.Callers.{length-held, sound}
 use Rattle.report.specs.Statement.{position_line, position_lines}
 use Rattle.report.proofs.StatementLengths.{positions-length}
-
--- The places of an open book
-
-module _ (b : Book) (reached : Reached b) (is_open : b.opened ≡ true) where
-  pub held-count : length (held b) ≡ b.count
-  held-count =
-      let s = sound b reached in
-      length-held b (omega (arith, s.room-positions, (s.when_open is_open).positions-most))
-
-  pub count_most : b.count ≤ 64
-  count_most = ((sound b reached).when_open is_open).positions-most
-
-  -- the position at a place in use, as the array has it
-  pub held_at : (k : ℕ) → k < b.count → get_or b.positions k no_position ≡ get_or (held b) k no_position
-  held_at k lt = sym (get_or-take b.count b.positions k no_position lt)
 
 -- Lines behind the B line
 

@@ -10,7 +10,8 @@ use Rattle.account.specs.declared.Account.{Account}
 use Rattle.book_model.specs.declared.Book.{Book}
 use Rattle.book_model.specs.declared.Position.{Position}
 use Rattle.book_model.specs.Book.{empty_book, held}
-use Rattle.book_model.specs.Reached.{Reached, empty}
+use Rattle.book_model.specs.Reached.{empty}
+use Rattle.book_model.specs.Invariant.{Sound}
 use Rattle.book_model.specs.Read.{totals_of}
 use Rattle.general_laws.proofs.Choice.{by-test, choice}
 use Rattle.book_model.proofs.Callers.{length-held, sound}
@@ -48,11 +49,10 @@ pub empty_prints_nothing : (b : Book) → b.opened ≡ false → book_printed b 
 unfolding book_printed totals_of
 empty_prints_nothing b shut = rw shut
 
-pub reached-fits : (b : Book) → Reached b → length (book_printed b) ≤ 81 + 64 * 47
-reached-fits b r =
+pub sound-fits : (b : Book) → Sound b → length (book_printed b) ≤ 81 + 64 * 47
+sound-fits b h =
     by-test b.opened
     (λ is_open.
-    let h = sound b r in
     let most = (h.when_open is_open).positions-most in
     omega (arith, book-length b is_open, length-held b (omega (arith, most, h.room-positions))))
     (λ shut. rw (empty_prints_nothing b shut) (omega arith))
@@ -64,5 +64,5 @@ unfolding statement_of printed
 statement-fits s =
     let o = load_of empty_book s in
     choice (λ (p : List ℕ). length p ≤ 81 + 64 * 47) (eqb o.number 0)
-    (λ _. reached-fits o.book (reached-kept empty_book s empty))
+    (λ _. sound-fits o.book (sound o.book (reached-kept empty_book s empty)))
     (λ _. omega (arith, refusal_length o.number o.line))

@@ -1,30 +1,26 @@
 -- What is printed of a book and of a load, by their answers, and stored at a buffer's front.
 use mathlib.Core.Path.{◌≡◌, refl, sym, ap, ◌∙◌}
-use mathlib.Core.Bool.{true, cond}
+use mathlib.Core.Bool.{cond}
 use mathlib.Core.List.{List, [], ◌++◌}
 use Prim.Native.Nat.{ℕ, ◌+◌, ◌≤◌, ◌<◌}
 use native.Mathlib.Nat.{zero-add}
 use native.Mathlib.Omega.{arith}
 use borrow.Author.Tests.{le-leb, lt-leb, ne_eqb}
 use lib.Dec.{eqb}
+use Rattle.std.specs.Prelude.{Result, Ok, Err}
 use lib.ListN.{length, drop, length-append}
 use lib.Seq.{sets, sets-eq}
-use Rattle.account.specs.declared.Account.{Account}
 use Rattle.book_model.specs.declared.Book.{Book}
 use Rattle.book_model.specs.declared.Refusal.{Refusal}
-use Rattle.book_model.specs.declared.TotalsAnswer.{TotalsAnswer}
-use Rattle.book_model.specs.declared.TotalsAnswer.TheVariants as totals-answer
+use Rattle.book_model.specs.declared.Totals.{Totals}
+use Rattle.book_model.specs.declared.called.Called.{Called}
 use Rattle.book_model.specs.Book.{empty_book, held}
-use Rattle.book_model.specs.Outcome.{Answer, Totals, totals_stated}
+use Rattle.book_model.specs.Outcome.{Answer, case_of, no_totals}
 use Rattle.book_model.specs.Read.{totals_of}
-use Rattle.general_laws.proofs.Choice.{by-test}
 use Rattle.general_laws.proofs.Stores.{sets_append}
-use Rattle.book_model.proofs.Callers.{no_refusal_is_0, totals-unopened}
+use Rattle.book_model.proofs.Callers.{no_refusal_is_0}
 use Rattle.line.specs.Line.{malformed_number}
-use Rattle.file_model.specs.declared.LoadAnswer.{LoadAnswer}
-use Rattle.file_model.specs.declared.LoadAnswer.TheVariants as load-answer
-use Rattle.file_model.specs.declared.Loaded.{Loaded}
-use Rattle.file_model.specs.declared.LoadRefusal.{LoadRefusal}
+use Rattle.file_model.specs.declared.LoadFault.{LoadFault}
 use Rattle.file_model.specs.Load.{refusal_number, answered, load_stated, load_of}
 use Rattle.file_model.proofs.Callers.{refusal_not_zero}
 use Rattle.report.specs.Statement.{totals_line, position_lines, refusal_line, book_printed, printed, statement_of, report_of}
@@ -35,47 +31,40 @@ use Rattle.report.proofs.StatementLengths.{totals-length}
 abbrev printed-by : Answer Totals → Book → List ℕ
 printed-by t b = cond (eqb t.number 0) (totals_line t.value.today t.value.account ++ position_lines (held b)) []
 
-module _ (b : Book) (r : TotalsAnswer) (stated : totals_stated r ≡ totals_of b) where
-  pub totals-printed : (today : ℕ) (a : Account) → r ≡ totals-answer.Totals today a
-      → book_printed b ≡ totals_line today a ++ position_lines (held b)
+module _ (b : Book) (r : Result Totals Refusal) (stated : case_of no_totals r ≡ totals_of b) where
+  pub totals-printed : (t : Totals) → r ≡ Ok t → book_printed b ≡ totals_line t.today t.account ++ position_lines (held b)
   unfolding book_printed
-  totals-printed today a e = ap (λ t. printed-by t b) (sym stated ∙ ap totals_stated e)
+  totals-printed t e = ap (λ a. printed-by a b) (sym stated ∙ ap (case_of no_totals) e)
 
-  pub refusal_prints_nothing : (why : Refusal) → r ≡ totals-answer.Refused why → book_printed b ≡ []
+  pub refusal_prints_nothing : (why : Refusal) → r ≡ Err why → book_printed b ≡ []
   unfolding book_printed
   refusal_prints_nothing why e =
-      ap (λ t. printed-by t b) (sym stated ∙ ap totals_stated e) ∙ rw (ne_eqb _ 0 (no_refusal_is_0 why))
-
-  pub totals_when_open : (today : ℕ) (a : Account) → r ≡ totals-answer.Totals today a → b.opened ≡ true
-  totals_when_open today a e =
-      by-test b.opened (λ is_open. is_open)
-      (λ closed. absurd (omega (arith, ap (λ t. t.number) (ap totals_stated (sym e) ∙ stated ∙ sym (totals-unopened b (rw closed refl))))))
+      ap (λ a. printed-by a b) (sym stated ∙ ap (case_of no_totals) e) ∙ rw (ne_eqb _ 0 (no_refusal_is_0 why))
 
 -- the B line, then the H lines
-pub book-put : (b : Book) (today : ℕ) (a : Account) (out middle end : List ℕ) (count : ℕ)
-    → book_printed b ≡ totals_line today a ++ position_lines (held b) → middle ≡ sets out 0 (totals_line today a)
+pub book-put : (b : Book) (t : Totals) (out middle end : List ℕ) (count : ℕ)
+    → book_printed b ≡ totals_line t.today t.account ++ position_lines (held b) → middle ≡ sets out 0 (totals_line t.today t.account)
     → (count ≡ 81 + length (position_lines (held b))) × (end ≡ sets middle 81 (position_lines (held b)))
     → (count ≡ length (book_printed b)) × (end ≡ sets out 0 (book_printed b))
-book-put b today a out middle end count whole first second = (
+book-put b t out middle end count whole first second = (
   rw (whole, length-append, totals-length) second.0,
   second.1 ∙ rw (whole, sets_append, totals-length, first) refl,
 )
 
 -- A load
 
-module _ (s : List ℕ) (r : Loaded) (stated : load_stated r ≡ load_of empty_book s) where
-  answer-printed : (x : LoadAnswer) → r.answer ≡ x → statement_of s ≡ printed (answered x r.book)
+module _ (s : List ℕ) (r : Called ℕ LoadFault) (stated : load_stated r ≡ load_of empty_book s) where
+  answer-printed : (x : Result ℕ LoadFault) → r.answer ≡ x → statement_of s ≡ printed (answered x r.book.book)
   unfolding statement_of
-  answer-printed x e = ap printed (sym stated ∙ ap (λ y. answered y r.book) e)
+  answer-printed x e = ap printed (sym stated ∙ ap (λ y. answered y r.book.book) e)
 
-  pub accepted-printed : (count : ℕ) → r.answer ≡ load-answer.Accepted count → statement_of s ≡ book_printed r.book
+  pub accepted-printed : (count : ℕ) → r.answer ≡ Ok count → statement_of s ≡ book_printed r.book.book
   unfolding printed
-  accepted-printed count e = answer-printed (load-answer.Accepted count) e
+  accepted-printed count e = answer-printed (Ok count) e
 
-  pub refused-printed : (why : LoadRefusal) (line : ℕ) → r.answer ≡ load-answer.Refused why line
-      → statement_of s ≡ refusal_line (refusal_number why) line
+  pub refused-printed : (fault : LoadFault) → r.answer ≡ Err fault → statement_of s ≡ refusal_line (refusal_number fault.refusal) fault.line
   unfolding printed
-  refused-printed why line e = answer-printed (load-answer.Refused why line) e ∙ rw (refusal_not_zero why)
+  refused-printed fault e = answer-printed (Err fault) e ∙ rw (refusal_not_zero fault.refusal)
 
 -- A report
 

@@ -1,6 +1,7 @@
 -- What the statement prints (document 01, "Statement program"): "Printed numbers are right-justified as in the file, and each line ends in a line
 -- feed."
-use Rattle.std.specs.Prelude.{ℕ, cond, List, [], ◌∷◌, ◌++◌, leb, eqb, length, drop}
+use Rattle.std.specs.Prelude.{ℕ, Result, cond, List, [], ◌∷◌, ◌++◌, leb, eqb, length, drop}
+use Rattle.answers.specs.Answers.{stated}
 use Rattle.account.specs.declared.Account.{Account}
 use Rattle.book_model.specs.declared.Book.{Book}
 use Rattle.book_model.specs.declared.Position.{Position}
@@ -9,8 +10,7 @@ use Rattle.book_model.specs.Read.{totals_of}
 use Rattle.line.specs.Field.{justified}
 use Rattle.line.specs.Line.{malformed_number}
 use Rattle.file_model.specs.Load.{Outcome, load_of}
-use Rattle.report.specs.declared.Reported.{Reported}
-use Rattle.report.specs.declared.Reported.TheVariants.{Printed, Short}
+use Rattle.report.specs.declared.Short.{Short}
 
 -- "B: today (8), outstanding (15), due (15), fraction (11), principal paid (15), interest paid (15)."
 unfoldable pub totals_line : (today : ℕ) → Account → List ℕ
@@ -54,9 +54,8 @@ statement_of s = printed (load_of empty_book s)
 -- The report, written into a buffer
 
 -- number, and how many bytes were printed
-abbrev pub report_stated : Reported → ℕ × ℕ
-report_stated (Printed count) = (0, count)
-report_stated Short = (malformed_number, 0)
+abbrev pub report_stated : Result ℕ Short → ℕ × ℕ
+report_stated = stated (λ _. malformed_number) 0
 
 -- the bytes at the buffer's start, the rest as it was; a buffer that not every statement fits into is refused and untouched
 unfoldable pub report_of : List ℕ → (buffer : List ℕ) → (ℕ × ℕ) × List ℕ

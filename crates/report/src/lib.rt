@@ -3,31 +3,24 @@
 
 mod printing;
 
-ghost use Rattle.std.specs.Prelude.{◌≡◌};
-ghost use Rattle.report.specs.Statement.{report_stated};
 ghost use Rattle.report.specs.Statements.{Statements};
+ghost use Rattle.line.specs.Line.{malformed_number};
 
 pub use crate::printing::report;
+use answers::Numbered;
 
-// How many bytes were printed, or that the buffer is too short for some statement.
-#[derive(Clone, Copy)]
-pub enum Reported {
-    Printed(usize),
-    Short,
-}
+// What every statement fits into: a B line and 64 H lines.
+pub const BYTES: usize = 3089;
 
-impl Reported {
-    // What every statement fits into: a B line and 64 H lines.
-    pub const BYTES: usize = 3089;
+// The refusal of a buffer that is too short for some statement.
+#[derive(Clone, Copy, Debug, PartialEq, Eq)]
+pub struct Short;
 
-    // Its number in document 01's table, 0 for a statement.
-    pub fn number(self) -> u32
-        ensures { result ≡ (report_stated self).0 }
-    {
-        match self {
-            Reported::Printed(_) => 0,
-            Reported::Short => line::MALFORMED,
-        }
+impl Numbered for Short {
+    ghost number = { λ _. malformed_number };
+
+    fn number(self) -> u32 {
+        line::MALFORMED
     }
 }
 

@@ -1,13 +1,11 @@
 // The lines of a statement, put into a buffer.
-ghost use Rattle.std.specs.Prelude.{◌≡◌, true, ◌+◌, ◌≤◌, length};
+ghost use Rattle.std.specs.Prelude.{◌≡◌, ◌+◌, ◌≤◌, length};
 ghost use Rattle.std.proofs.lemmas.List.Edits.{sets};
-ghost use Rattle.book_model.specs.Book.{held};
-ghost use Rattle.book_model.specs.Reached.{Reached};
 ghost use Rattle.report.specs.Statement.{totals_line, position_line, position_lines, refusal_line, book_printed, report_stated, report_of};
 
-use crate::Reported;
-use book::{Account, Book, Position, TotalsAnswer};
-use file::LoadAnswer;
+use crate::{BYTES, Short};
+use answers::Numbered;
+use book::{Position, ReachedBook, Totals};
 use line::put_number;
 
 // The bytes of a B line, an H line and an X line.
@@ -18,12 +16,13 @@ const POSITION_BYTES: usize = 47;
 const REFUSAL_BYTES: usize = 14;
 
 // The B line.
-pub fn put_totals(out: &mut [u8], today: u32, account: Account)
+pub fn put_totals(out: &mut [u8], totals: Totals)
     requires { 81 ≤ length out.old }
-    ensures { out.new ≡ sets out.old 0 (totals_line today account) }
+    ensures { out.new ≡ sets out.old 0 (totals_line totals.today totals.account) }
 {
+    let account = totals.account;
     out[0] = b'B';
-    put_number(out, 1, 8, today as u64);
+    put_number(out, 1, 8, totals.today as u64);
     put_number(out, 9, 15, account.outstanding.0);
     put_number(out, 24, 15, account.due.0);
     put_number(out, 39, 11, account.fraction);
@@ -56,55 +55,46 @@ pub fn put_refusal(out: &mut [u8], number: u32, line: usize)
     out[13] = b'\n';
 }
 
-// The H lines of an open book, in book order behind the B line. It answers the position behind them.
-pub fn put_positions(out: &mut [u8], book: Book) -> usize
-    requires reached { (Reached book) × (book.opened ≡ true) }
-    requires in_bounds { 3089 ≤ length out.old }
-    ensures { (result ≡ 81 + length (position_lines (held book))) × (out.new ≡ sets out.old 81 (position_lines (held book))) }
+// The H lines of positions, behind the B line. It answers the position behind them.
+pub fn put_positions(out: &mut [u8], held: &[Position]) -> usize
+    requires { (length held.now ≤ 64) × (3089 ≤ length out.old) }
+    ensures { (result ≡ 81 + length (position_lines held.now)) × (out.new ≡ sets out.old 81 (position_lines held.now)) }
 {
-    let positions = book.positions;
-    let count = book.count;
-    let mut place: usize = 0;
     let mut at = TOTALS_BYTES;
-    while place < count {
-        let position = positions[place];
-        put_position(out, at, position);
-        place += 1;
+    for position in held {
+        put_position(out, at, *position);
         at += POSITION_BYTES;
     }
     at
 }
 
 // The statement of a book. It answers how many bytes it has.
-pub fn put_book(out: &mut [u8], book: Book) -> usize
-    requires reached { Reached book }
-    requires in_bounds { 3089 ≤ length out.old }
-    ensures { (result ≡ length (book_printed book)) × (out.new ≡ sets out.old 0 (book_printed book)) }
+pub fn put_book(out: &mut [u8], book: &ReachedBook) -> usize
+    requires { 3089 ≤ length out.old }
+    ensures { (result ≡ length (book_printed book.now.book)) × (out.new ≡ sets out.old 0 (book_printed book.now.book)) }
 {
     match book::totals(book) {
-        TotalsAnswer::Totals { today, account } => {
-            put_totals(out, today, account);
-            put_positions(out, book)
+        Ok(totals) => {
+            put_totals(out, totals);
+            put_positions(out, &book.book.positions[..book.book.count])
         }
-        TotalsAnswer::Refused(_) => 0,
+        Err(_) => 0,
     }
 }
 
 // The statement of a file, loaded on the empty book.
-pub fn report(file: &[u8], out: &mut [u8]) -> Reported
+pub fn report(file: &[u8], out: &mut [u8]) -> Result<usize, Short>
     ensures { (report_stated result ≡ (report_of file.now out.old).0) × (out.new ≡ (report_of file.now out.old).1) }
 {
-    if out.len() < Reported::BYTES {
-        return Reported::Short;
+    if out.len() < BYTES {
+        return Err(Short);
     }
-    let loaded = file::load(file, Book::empty());
-    let answer = loaded.answer;
-    let book = loaded.book;
-    match answer {
-        LoadAnswer::Accepted(_) => Reported::Printed(put_book(out, book)),
-        LoadAnswer::Refused { refusal, line } => {
-            put_refusal(out, refusal.number(), line);
-            Reported::Printed(REFUSAL_BYTES)
+    let loaded = file::load(file, ReachedBook::empty());
+    match loaded.answer {
+        Ok(_) => Ok(put_book(out, &loaded.book)),
+        Err(fault) => {
+            put_refusal(out, fault.number(), fault.line);
+            Ok(REFUSAL_BYTES)
         }
     }
 }

@@ -1,55 +1,37 @@
--- Out of range by the first of six tests that fails; where all pass, the replay's answer.
-use Prim.Native.Nat.{◌≤◌}
+-- Out of range by the first of the tests that fails; where all pass, the answer is what is left of the replay at its start.
 use native.Mathlib.Omega.{arith}
-use mathlib.Core.Path.{◌≡◌, sym, ◌∙◌}
-use borrow.Author.Rules.{rules}
-use lib.ListN.{length}
-use Rattle.account.proofs.RangeTests.{no_orders, begins_wrong, begins-right}
-use Rattle.account.proofs.Reckonings.{much_recognised, late_today, many_rates, many_settlements, no_schedule}
+use mathlib.Core.Path.{◌≡◌, refl, sym, ◌∙◌}
+use mathlib.Core.Bool.{false}
+use Rattle.std.specs.Prelude.{Err}
+use Rattle.account.specs.declared.Unreckoned.TheVariants.{OutOfRange}
+use Rattle.account.specs.Ranges.{is_schedule}
+use Rattle.account.specs.Reckoning.{replayed}
+use Rattle.account.proofs.RangeTests.{no_orders, unscheduled}
+use Rattle.account.proofs.Reckonings.{replay_tests}
+use Rattle.account.proofs.Replays.{left_all}
+use Rattle.account.proofs.Walks.{begins}
 use Rattle.account.proofs.replaying.replay.Goals as goal
-use Rattle.account.proofs.replaying.replay.Goals.{Else-settled-gt-SETTLEMENTS}
+use Rattle.account.proofs.replaying.replay.Goals.{After-split_first}
 
--- the array has 16 elements, of which so many are orders
-room : (c : Else-settled-gt-SETTLEMENTS) → c.args.rated ≤ length c.args.rates
-room c =
-    let n : length c.args.rates ≡ 16 = search rules in omega (arith, c.if-rated-gt-RATES.false)
+-- the bounds hold, so the orders and the settlements decide
+decided : (c : After-split_first) → is_schedule c.args.rates.now ≡ false → Err OutOfRange ≡ replayed c.args.recognised.0 c.args.rates.now c.args.settlements.now c.args.today.0
+decided c e = sym (replay_tests _ _ _ _ (omega arith) (omega arith) (omega arith) (omega arith) ∙ rw e)
 
-pub returns-then-recognised-gt-CENTS : goal.returns-then-recognised-gt-CENTS
-returns-then-recognised-gt-CENTS c =
-    much_recognised _ _ _ _ _ _ (omega arith)
-
-pub returns-then-today-gt-DAYS : goal.returns-then-today-gt-DAYS
-returns-then-today-gt-DAYS c =
-    late_today _ _ _ _ _ _ (omega arith) (omega arith)
-
-pub returns-then-rated-gt-RATES : goal.returns-then-rated-gt-RATES
-returns-then-rated-gt-RATES c =
-    many_rates _ _ _ _ _ _ (omega arith) (omega arith) (omega arith)
-
-pub returns-then-settled-gt-SETTLEMENTS : goal.returns-then-settled-gt-SETTLEMENTS
-returns-then-settled-gt-SETTLEMENTS c =
-    many_settlements _ _ _ _ _ _ (omega arith) (omega arith) (omega arith) (omega arith)
-
-pub returns-then-rated-eq0 : goal.returns-then-rated-eq0
-returns-then-rated-eq0 c =
-    no_schedule _ _ _ _ _ _ (omega arith) (omega arith) (omega arith) (omega arith)
-    (no_orders c.args.rates c.args.rated (room (goal.at.returns-then-rated-eq0 c).Else-settled-gt-SETTLEMENTS) (omega arith))
+pub returns-in_default : goal.returns-in_default
+returns-in_default c =
+    decided (goal.at.returns-in_default c).After-split_first (no_orders c.args.rates.now c.in_default.ensures.cases)
 
 pub returns-then-not-is_first : goal.returns-then-not-is_first
 returns-then-not-is_first c =
-    no_schedule _ _ _ _ _ _ (omega arith) (omega arith) (omega arith) (omega arith)
-    (begins_wrong c.args.rates c.args.rated (room (goal.at.returns-then-not-is_first c).Else-settled-gt-SETTLEMENTS) (omega arith)
-    (sym c.is_first.ensures ∙ c.if-not-is_first.true))
+    decided (goal.at.returns-then-not-is_first c).After-split_first
+    (rw c.in-Some.ensures.cases.0 (unscheduled _ _ (sym c.is_first.ensures ∙ c.if-not-is_first.true)))
 
-pub replay_all-requires-clause-recognised_bound : goal.replay_all-requires-clause-recognised_bound
-replay_all-requires-clause-recognised_bound c =
-    (omega arith, omega arith, omega arith, omega arith)
-
-pub replay_all-requires-clause-come : goal.replay_all-requires-clause-come
-replay_all-requires-clause-come c =
-    begins-right c.args.rates c.args.rated (room (goal.at.replay_all-requires-clause-come c).Else-settled-gt-SETTLEMENTS) (omega arith)
-    (sym c.is_first.ensures ∙ c.if-not-is_first.false)
+pub replay_from-requires-clause-come : goal.replay_from-requires-clause-come
+replay_from-requires-clause-come c =
+    begins c.args.recognised.0 _ (omega arith) c.opening.ensures refl (sym c.is_first.ensures ∙ c.if-not-is_first.false)
 
 pub returns : goal.returns
 returns c =
-    c.replay_all.ensures
+    c.replay_from.ensures
+    ∙ left_all c.args.recognised.0 c.args.today.0 _ c.args.settlements.now c.args.rates.now c.in-Some.ensures.cases.0 c.opening.ensures refl (sym c.is_first.ensures ∙ c.if-not-is_first.false)
+    ∙ sym (replay_tests _ _ _ _ (omega arith) (omega arith) (omega arith) (omega arith))

@@ -1,36 +1,50 @@
--- The leftover units: the threshold and the place where ties end decide as the ranks do.
-use Rattle.std.proofs.Common.{◌+◌, ◌-◌, ◌≡◌, ◌∙◌, arith}
-use Rattle.general_laws.specs.Sums.{list_below}
-use Rattle.general_laws.proofs.Lists.{list_same}
-use Rattle.apportionment.specs.Steps.{above, equals, raised, with_extra}
-use Rattle.apportionment.proofs.Threshold.{not_below_split, raised-most, raised-extra}
+-- One place more has its unit, or none is its due.
+use Rattle.std.proofs.Common.{ltb, arith, ◌∙◌}
+use Rattle.apportionment.specs.Steps.{at}
+use Rattle.apportionment.proofs.Threshold.{equals-none, equals_counts, equals-skips, extra-none, extra_at, unit_most, given_above, given_equal}
 use Rattle.apportionment.proofs.leftovers.hand_out.Goals as goal
+use Rattle.apportionment.proofs.leftovers.hand_out.Goals.{then-remainder-bound+then-spare-gt0, else-remainder-bound, else-remainder-bound-via-then-remainder-bound+else-spare-gt0, else-remainder-bound-via-else-remainder-bound}
 
-pub place_behind-cut-requires : goal.place_behind-cut-requires
-place_behind-cut-requires c = (
-  omega arith,
-  omega (
-    arith,
-    c.count_above.ensures,
-    c.threshold-bound.ensures.1.lower,
-    not_below_split c.args.remainders.now c.args.count c.threshold-bound.result,
-  ),
+pub loop-i-init : goal.loop-i-init
+loop-i-init c = (
+  extra-none _ _ _ c.requires.places.3,
+  omega (arith, c.count_above.ensures, equals-none c.args.remainders.now c.threshold-bound.result),
 )
 
-pub raise-requires-2-clause-parts_small : goal.raise-requires-2-clause-parts_small
-raise-requires-2-clause-parts_small c k =
-    rw c.raise.ensures (raised-most c.args.parts.now c.args.remainders.now _ _ _ k c.requires.parts_small)
-
-pub returns : goal.returns
-returns c =
-    let ps = c.args.parts.now in
+pub loop-i-preserved : goal.loop-i-preserved
+loop-i-preserved c =
     let rs = c.args.remainders.now in
-    let n = c.args.count in
-    let l = c.args.leftover in
     let b = c.threshold-bound.result in
-    let p = c.place_behind-cut.result in
-    let cut : equals rs p b ≡ l - above rs n b = omega (arith, c.place_behind-cut.ensures.1, c.count_above.ensures) in
-    c.raise-2.ensures
-    ∙ rw c.raise.ensures
-    (list_same 64 (raised (list_below 64 (raised ps rs 0 p b)) rs p n (b + 1)) (with_extra ps rs n l)
-    (λ k lt. raised-extra ps rs n l b p k lt c.place_behind-cut.ensures.0 c.threshold-bound.ensures.1 cut))
+    let i = c.loop-i.i in
+    let t = c.threshold-bound.ensures in
+    let lt = c.loop-i-test.true in
+    let few = c.requires.places.2 in
+    let so_far = c.loop-i.invariant.0 in
+    elim c.if-remainder-bound.branch [
+      | then-remainder-bound+then-spare-gt0 w ↦ (
+        w.parts-is ∙ given_equal _ _ _ _ _ _ t lt few so_far w.if-remainder-bound.true (omega arith),
+        omega (arith, w.spare-is, equals_counts rs i b w.if-remainder-bound.true),
+      )
+      | else-remainder-bound w ↦
+          elim w.else-remainder-bound.branch [
+            | else-remainder-bound-via-then-remainder-bound+else-spare-gt0 w' ↦ (
+              w.parts-is ∙ given_above _ _ _ _ _ _ t lt few so_far _ w.from.ensures (λ e. omega arith),
+              omega (arith, w.spare-is, equals_counts rs i b w'.if-remainder-bound.true),
+            )
+            | else-remainder-bound-via-else-remainder-bound w' ↦ (
+              w.parts-is ∙ given_above _ _ _ _ _ _ t lt few so_far _ w.from.ensures (λ e. absurd (w'.if-remainder-bound.false e)),
+              omega (arith, w.spare-is, equals-skips rs i b w'.if-remainder-bound.false),
+            )
+          ]
+    ]
+
+pub overflow_add-parts : goal.overflow_add-parts
+overflow_add-parts c =
+    let e = extra_at _ _ _ _ _ _ c.threshold-bound.ensures c.loop-i-test.true c.requires.places.2 c.loop-i.invariant.0 in
+    record { fits = omega (arith, c.requires.parts_small c.loop-i.i, e) }
+
+pub overflow_add-parts-else-remainder-bound : goal.overflow_add-parts-else-remainder-bound
+overflow_add-parts-else-remainder-bound c =
+    let e = extra_at _ _ _ _ _ _ c.threshold-bound.ensures c.loop-i-test.true c.requires.places.2 c.loop-i.invariant.0 in
+    let more = unit_most (ltb c.threshold-bound.result (at c.args.remainders.now c.loop-i.i)) in
+    record { fits = omega (arith, c.requires.parts_small c.loop-i.i, e, c.from.ensures) }

@@ -1,31 +1,24 @@
 -- The range holds the place sought, and each halving keeps it.
-use Rattle.std.proofs.Common.{◌<◌, ◌+◌, ◌/◌, arith}
-use Rattle.apportionment.proofs.Threshold.{not_below_next, not_below_split, none_above, all_from}
+use Rattle.std.proofs.Common.{◌≡◌, ◌<◌, ◌≤◌, ◌+◌, ◌-◌, ◌/◌, length, MatchOption, EachIndex, rules, arith}
+use Rattle.apportionment.specs.Steps.{at}
+use Rattle.apportionment.proofs.Threshold.{least_of, greatest_of, none_above, all_from, above-within}
 use Rattle.apportionment.proofs.leftovers.threshold.Goals as goal
 
 pub loop-low-init : goal.loop-low-init
 loop-low-init c =
     let rs = c.args.remainders.now in
-    let n = c.args.count in
-    let t = c.remainder_range-range.ensures in
-    let p : 0 < n = omega arith in (
-      omega (arith, t.low 0 p, t.high 0 p),
-      t.most,
-      omega (arith, none_above rs n _ _ t),
-      omega (arith, all_from rs n _ _ t),
+    let least : MatchOption c.min.result (length rs ≡ 0) (λ m. EachIndex rs (λ k. m ≤ at rs k)) = search rules in
+    let greatest : MatchOption c.max.result (length rs ≡ 0) (λ m. EachIndex rs (λ k. at rs k ≤ m)) = search rules in
+    let low = least_of rs c.min.result c.unwrap_or-low.result c.unwrap_or-low.ensures least in
+    let high = greatest_of rs c.max.result c.unwrap_or-high.result c.unwrap_or-high.ensures greatest in
+    let some : 0 < length rs = omega arith in (
+      omega (arith, low 0 some, high 0 some),
+      omega (arith, none_above rs c.unwrap_or-high.result high),
+      omega (arith, all_from rs c.unwrap_or-low.result low),
     )
 
 pub returns-then-found-leftover : goal.returns-then-found-leftover
 returns-then-found-leftover c =
-    let e = c.count_above-found.ensures in (
-      omega arith,
-      record {
-        upper = omega (arith, e);
-        lower = omega (arith, e, not_below_split c.args.remainders.now c.args.count ((c.loop-low.low + c.loop-low.high) / 2));
-      },
-    )
-
-pub loop-low-preserved : goal.loop-low-preserved
-loop-low-preserved c =
-    let n = not_below_next c.args.remainders.now c.args.count ((c.loop-low.low + c.loop-low.high) / 2) in
-    (omega arith, omega arith, omega arith, omega (arith, c.count_above-found.ensures))
+    let e = c.count_above-found.ensures in
+    let w = above-within c.args.remainders.now (c.loop-low.low + (c.loop-low.high - c.loop-low.low) / 2) in
+    record { upper = omega arith; lower = omega arith }

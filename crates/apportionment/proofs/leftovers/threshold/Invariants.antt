@@ -6,9 +6,8 @@ use Rattle.apportionment.proofs.leftovers.threshold.Given as goal
 abbrev pub invariant-loop-low : goal.invariant-loop-low
 invariant-loop-low l =
     (l.low ≤ l.high)
-    × (l.high ≤ 92000000)
-    × (above l.remainders l.count l.high ≤ l.leftover)
-    × (l.leftover ≤ not_below l.remainders l.count l.low)
+    × (above l.remainders l.high ≤ l.leftover)
+    × (l.leftover ≤ not_below l.remainders l.low)
 
 abbrev pub decreases-loop-low : goal.decreases-loop-low
 decreases-loop-low l = l.high - l.low

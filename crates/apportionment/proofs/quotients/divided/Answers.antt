@@ -1,22 +1,70 @@
--- The division and, where units are left over, their handing out give the parts.
-use Rattle.std.proofs.Common.{◌∙◌, arith}
-use Rattle.apportionment.proofs.Whole.{whole_parts, extra-parts, few, quotients-length, quotients-most, remainders-most, positions-some}
+-- One quotient and one remainder more, and the amount less that quotient; then the units left over are handed out.
+use Rattle.std.proofs.Common.{ℕ, List, length, take, ◌≡◌, ◌∙◌, ap, arith}
+use Rattle.general_laws.proofs.Sums.{sum-none, sum-suc}
+use Rattle.apportionment.specs.Apportionment.{quotient, remainder}
+use Rattle.apportionment.proofs.Arrays.{padded-none, padded_step, padded-length}
+use Rattle.apportionment.proofs.Whole.{leftover_is, in_use, few, product_fits, quotient_is, remainder_is, left_is, quotients-most, whole_parts, extra-parts}
 use Rattle.apportionment.proofs.quotients.divided.Goals as goal
+
+pub loop-i-init : goal.loop-i-init
+loop-i-init c = (
+  padded-none _,
+  padded-none _,
+  omega (arith, sum-none (quotient c.args.amount c.args.weights.now)),
+)
+
+pub overflow_mul-product : goal.overflow_mul-product
+overflow_mul-product c = record { fits = product_fits _ _ _ c.requires _ c.loop-i-test.true }
+
+pub overflow_sub-leftover : goal.overflow_sub-leftover
+overflow_sub-leftover c = omega (arith, quotient_is _ _ _ c.requires _ c.loop-i-test.true, left_is _ _ _ c.requires _ c.loop-i-test.true)
+
+pub loop-i-preserved : goal.loop-i-preserved
+loop-i-preserved c =
+    let i = c.loop-i.i in
+    let m = c.args.amount in
+    let ws = c.args.weights.now in
+    let w = c.requires in
+    let lt = c.loop-i-test.true in
+    let q = quotient_is _ _ _ w _ lt in (
+      rw c.loop-i.invariant.0 (padded_step i (quotient m ws) _ (omega (arith, w.places)) q),
+      rw c.loop-i.invariant.1 (padded_step i (remainder m ws) _ (omega (arith, w.places)) (remainder_is _ _ _ w _ lt)),
+      omega (arith, sum-suc i (quotient m ws), left_is _ _ _ w _ lt),
+    )
+
+pub overflow_cast-leftover : goal.overflow_cast-leftover
+overflow_cast-leftover c =
+    let m = c.args.amount in
+    let ws = c.args.weights.now in
+    let l = leftover_is m ws c.loop-i.leftover c.loop-i.i (omega arith) c.loop-i.invariant.2 in
+    record { fits = omega (arith, few m ws _ c.requires, c.requires.places, l) }
 
 pub hand_out-requires-clause-places : goal.hand_out-requires-clause-places
 hand_out-requires-clause-places c =
-    let w = c.requires in
-    let d = c.divide-leftover.ensures in
-    (positions-some _ _ _ _ w _ _ _ d, w.places, few _ _ _ _ w _ _ _ d, quotients-length _ _ _ _ w _ _ _ d)
-
-pub hand_out-requires-clause-remainders_small : goal.hand_out-requires-clause-remainders_small
-hand_out-requires-clause-remainders_small c = remainders-most _ _ _ _ c.requires _ _ _ c.divide-leftover.ensures
+    let m = c.args.amount in
+    let ws = c.args.weights.now in
+    let end : c.loop-i.i ≡ length ws = omega arith in
+    let l = leftover_is m ws c.loop-i.leftover c.loop-i.i end c.loop-i.invariant.2 in
+    let rs = rw end at c.loop-i.invariant.1 in
+    let n = ap (λ (xs : List ℕ). length (take (length ws) xs)) rs ∙ in_use m ws _ c.requires in
+    (omega arith, omega (arith, few m ws _ c.requires, l, n), omega (arith, c.requires.places, n), rw c.loop-i.invariant.0 (padded-length _ _))
 
 pub hand_out-requires-clause-parts_small : goal.hand_out-requires-clause-parts_small
-hand_out-requires-clause-parts_small c = quotients-most _ _ _ _ c.requires _ _ _ c.divide-leftover.ensures
+hand_out-requires-clause-parts_small c =
+    let end : c.loop-i.i ≡ length c.args.weights.now = omega arith in
+    rw (c.loop-i.invariant.0, end) (quotients-most _ _ _ c.requires)
 
 pub returns-then-leftover-gt0 : goal.returns-then-leftover-gt0
-returns-then-leftover-gt0 c = c.hand_out.ensures ∙ extra-parts _ _ _ _ c.requires _ _ _ c.divide-leftover.ensures
+returns-then-leftover-gt0 c =
+    let end : c.loop-i.i ≡ length c.args.weights.now = omega arith in
+    let l = leftover_is c.args.amount c.args.weights.now c.loop-i.leftover c.loop-i.i end c.loop-i.invariant.2 in
+    let ps = rw end at c.loop-i.invariant.0 in
+    let rs = rw end at c.loop-i.invariant.1 in
+    let n = in_use c.args.amount c.args.weights.now _ c.requires in
+    c.hand_out.ensures ∙ rw (ps, rs, l, n) (extra-parts _ _ _ c.requires)
 
 pub returns-else-leftover-gt0 : goal.returns-else-leftover-gt0
-returns-else-leftover-gt0 c = whole_parts _ _ _ _ c.requires _ _ _ c.divide-leftover.ensures (omega arith)
+returns-else-leftover-gt0 c =
+    let end : c.loop-i.i ≡ length c.args.weights.now = omega arith in
+    let l = leftover_is c.args.amount c.args.weights.now c.loop-i.leftover c.loop-i.i end c.loop-i.invariant.2 in
+    rw (c.loop-i.invariant.0, end) (whole_parts _ _ _ c.requires (omega arith))

@@ -7,9 +7,9 @@ use Rattle.cases.proofs.filling.fill.Goals as goal
 
 pub loop-i-init : goal.loop-i-init
 unfolding filled
-loop-i-init c = (omega arith, refl, refl)
+loop-i-init c = (refl, refl)
 
 pub loop-i-preserved : goal.loop-i-preserved
 loop-i-preserved c =
     let l = c.loop-i in
-    (simp length-set (omega arith), simp length-set l.invariant.1, fills l.buffer l.i (omega arith) l.invariant.2)
+    (simp length-set l.invariant.0, fills l.buffer l.i (omega arith) l.invariant.1)

@@ -1,104 +1,38 @@
--- The loop's invariant: with the holders and shares so far, the load from here on is the one that was asked.
-use Prim.Native.Nat.{ℕ}
-use native.Mathlib.Omega.{arith}
-use mathlib.Core.Path.{refl, sym, ap, ◌∙◌}
-use mathlib.Core.List.{List}
-use lib.Seq.{length-take-le}
-use Rattle.line.specs.Line.{read_stated}
+-- Each F line by what reading it gave, and the line behind them.
+use Rattle.std.proofs.Common.{arith, rules, ◌≡◌, sym, ◌∙◌, get_or}
+use borrow.Author.Tests.{eqb-true, eqb-false}
 use Rattle.lines.proofs.Callers.{end-past}
-use Rattle.file.proofs.LoadSteps.{load-opens}
-use Rattle.file.proofs.FinancingLines.{financing-malformed, financing-full, gathering_goes_on, gathering_stops}
+use Rattle.file.proofs.LinesLeft.{Read}
+use Rattle.file.proofs.FinancingLines.{byte_there, gathering-malformed, gathering-full, gathering_goes_on, gathering-ends}
 use Rattle.file.proofs.financing.gather.Goals as goal
-use Rattle.file.proofs.financing.gather.Goals.{At-loop-at}
+use Rattle.file.proofs.financing.gather.Goals.{After-next_line}
 
--- the file, at a turn's beginning
-abbrev file : (turn : At-loop-at) → List ℕ
-file turn =
-    turn.args.file.now
+is_f : (c : After-next_line) → get_or c.loop-lines.lines.reader.file.now c.loop-lines.lines.reader.at 0 ≡ 70
+is_f c = eqb-true _ _ (sym c.begins_with_f.ensures ∙ c.loop-lines-test.true)
 
-pub loop-at-init : goal.loop-at-init
-loop-at-init c =
-    record {
-      same = λ kept b line first term annual cents. refl;
-      ahead = omega arith;
-      within = omega arith;
-      counted = omega arith;
-      few = omega arith;
-      holders-full = refl;
-      shares-full = refl;
-    }
+read : (c : After-next_line) → Read c.loop-lines.lines c.next_line.new.self
+read c = record { more = byte_there _ _ (is_f c); moved = c.next_line.ensures.moved; counted = c.next_line.ensures.counted }
 
-pub bounds-file-at : goal.bounds-file-at
-bounds-file-at c =
-    omega arith
+pub returns-in_err-fields-clause-gathered : goal.returns-in_err-fields-clause-gathered
+returns-in_err-fields-clause-gathered c =
+    let at = (goal.at.returns-in_err-fields-clause-gathered c).After-next_line in
+    gathering-malformed c.loop-lines.invariant (read at) (is_f at) c.in_err-fields.ensures.line c.from_residual.result (search rules)
 
-pub overflow_add-result : goal.overflow_add-result
-overflow_add-result c =
-    omega arith
+pub returns-then-financing-eq-POSITIONS-clause-gathered : goal.returns-then-financing-eq-POSITIONS-clause-gathered
+returns-then-financing-eq-POSITIONS-clause-gathered c =
+    let at = (goal.at.returns-then-financing-eq-POSITIONS-clause-gathered c).After-next_line in
+    gathering-full c.loop-lines.invariant (read at) (is_f at) _ c.in_ok-fields.ensures.line c.if-financing-eq-POSITIONS.true c.fault.result c.fault.ensures
 
-pub returns-in_default : goal.returns-in_default
-returns-in_default c =
-    let s = (c.args.file.now) in
-    gathering_stops s _ _ _ _ _ _ _ c.loop-at.invariant _
-    (financing-malformed s c.loop-at.at c.loop-at.lines _ _ (omega arith) (c.if-file-at-eq70.true)
-    (sym (ap read_stated c.in_default.is) ∙ c.read_from-step.ensures.0))
+pub loop-lines-smaller : goal.loop-lines-smaller
+loop-lines-smaller c =
+    let r = read (goal.at.loop-lines-smaller c).After-next_line in
+    rw r.moved.0 (omega (arith, r.more, r.moved.1, end-past _ _ r.more))
 
-pub overflow_add-result-then-count-ge-POSITIONS : goal.overflow_add-result-then-count-ge-POSITIONS
-overflow_add-result-then-count-ge-POSITIONS c =
-    omega arith
+pub loop-lines-preserved : goal.loop-lines-preserved
+loop-lines-preserved c =
+    let at = (goal.at.loop-lines-preserved c).After-next_line in
+    rw c.share_of.ensures
+    (gathering_goes_on c.loop-lines.invariant (read at) (is_f at) _ c.in_ok-fields.ensures.line (omega (arith, c.loop-lines.invariant.few, c.if-financing-eq-POSITIONS.false)))
 
-pub returns-then-count-ge-POSITIONS : goal.returns-then-count-ge-POSITIONS
-returns-then-count-ge-POSITIONS c =
-    let s = (c.args.file.now) in
-    gathering_stops s _ _ _ _ _ _ _ c.loop-at.invariant _
-    (financing-full s c.loop-at.at c.loop-at.lines _ _ (omega arith) (c.if-file-at-eq70.true) _
-    (sym (ap read_stated c.in-Read.is) ∙ c.read_from-step.ensures.0)
-    (omega (arith, length-take-le c.loop-at.count c.loop-at.holders (omega arith))))
-
-pub offset_bounds-holders-count : goal.offset_bounds-holders-count
-offset_bounds-holders-count c =
-    omega arith
-
-pub bounds-holders-count : goal.bounds-holders-count
-bounds-holders-count c =
-    omega arith
-
-pub offset_bounds-shares-count : goal.offset_bounds-shares-count
-offset_bounds-shares-count c =
-    omega arith
-
-pub bounds-shares-count : goal.bounds-shares-count
-bounds-shares-count c =
-    omega arith
-
-pub overflow_add-count : goal.overflow_add-count
-overflow_add-count c =
-    omega arith
-
-pub overflow_add-lines : goal.overflow_add-lines
-overflow_add-lines c =
-    omega arith
-
-pub loop-at-smaller : goal.loop-at-smaller
-loop-at-smaller c =
-    let s = (c.args.file.now) in
-    omega (arith, c.read_from-step.ensures.1, end-past s c.loop-at.at (omega arith))
-
-pub loop-at-preserved : goal.loop-at-preserved
-loop-at-preserved c =
-    let s = (c.args.file.now) in
-    rw (c.share_of.ensures, c.read_from-step.ensures.1)
-    (gathering_goes_on s _ _ _ _ _ _ _ c.loop-at.invariant _ (omega arith) (c.if-file-at-eq70.true)
-    (sym (ap read_stated c.in-Read.is) ∙ c.read_from-step.ensures.0) (omega arith))
-
-pub returns-else-file-at-eq70 : goal.returns-else-file-at-eq70
-returns-else-file-at-eq70 c =
-    let s = (c.args.file.now) in
-    gathering_stops s _ _ _ _ _ _ _ c.loop-at.invariant _
-    (λ kept b line first term annual cents. load-opens s c.loop-at.at c.loop-at.lines kept b _ (λ _. c.if-file-at-eq70.false))
-
-pub returns-after-loop-at : goal.returns-after-loop-at
-returns-after-loop-at c =
-    let s = (c.args.file.now) in
-    gathering_stops s _ _ _ _ _ _ _ c.loop-at.invariant _
-    (λ kept b line first term annual cents. load-opens s c.loop-at.at c.loop-at.lines kept b _ (λ more _. absurd (omega arith)))
+pub returns-clause-gathered : goal.returns-clause-gathered
+returns-clause-gathered c = gathering-ends c.loop-lines.invariant (eqb-false _ _ (sym c.begins_with_f.ensures ∙ c.loop-lines-test.false))

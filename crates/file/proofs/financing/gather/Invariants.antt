@@ -1,13 +1,10 @@
--- The loop's invariant: with the holders and shares so far, the load from here on is the one that was asked.
-use Prim.Native.Nat.{◌-◌}
-use lib.ListN.{length}
+-- The loop's invariant: with the holders and shares so far, what is left is what was asked.
+use Rattle.std.proofs.Common.{length, ◌-◌}
 use Rattle.file.proofs.FinancingLines.{Gathering}
 use Rattle.file.proofs.financing.gather.Given as goal
 
-abbrev pub invariant-loop-at : goal.invariant-loop-at
-invariant-loop-at l =
-    Gathering l.file l.start l.before l.holders l.shares l.count l.at l.lines
+abbrev pub invariant-loop-lines : goal.invariant-loop-lines
+invariant-loop-lines l = Gathering l.initial.lines l.lines l.financing
 
-abbrev pub decreases-loop-at : goal.decreases-loop-at
-decreases-loop-at l =
-    length l.file - l.at
+abbrev pub decreases-loop-lines : goal.decreases-loop-lines
+decreases-loop-lines l = length l.lines.reader.file.now - l.lines.reader.at

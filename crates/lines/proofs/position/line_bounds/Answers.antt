@@ -7,4 +7,4 @@ pub returns : goal.returns
 unfolding line_end
 returns c =
     let start = c.line_start-start.ensures in
-    (start, c.line_end-end.ensures ∙ ap (end_of c.args.file.now) start)
+    (start, c.line_end.ensures ∙ ap (end_of c.args.file.now) start)

@@ -1,13 +1,11 @@
--- A line feed ends the line, another byte doesn't, and beyond the last byte nothing is left.
-use Rattle.std.proofs.Common.{arith, sym, ◌∙◌}
-use Rattle.lines.proofs.LinePositions.{end-feed, end-other, end_beyond}
+-- The end is within the file, or the position itself.
+use Rattle.std.proofs.Common.{arith, ap}
+use Rattle.lines.specs.Lines.{line_length}
+use Rattle.lines.proofs.LinePositions.{end-below}
 use Rattle.lines.proofs.position.line_end.Goals as goal
 
-pub returns-then-file-i-eq10 : goal.returns-then-file-i-eq10
-returns-then-file-i-eq10 c = sym (c.loop-i.invariant ∙ end-feed c.args.file.now c.loop-i.i (omega arith) c.if-file-i-eq10.true)
-
-pub loop-i-preserved : goal.loop-i-preserved
-loop-i-preserved c = c.loop-i.invariant ∙ end-other c.args.file.now c.loop-i.i (omega arith) c.if-file-i-eq10.false
-
-pub returns : goal.returns
-returns c = sym (c.loop-i.invariant ∙ end_beyond c.args.file.now c.loop-i.i (omega arith))
+pub overflow_add-result : goal.overflow_add-result
+overflow_add-result c =
+    let s = c.args.file.now in
+    let below = end-below s c.args.at 18446744073709551616 (omega arith) (omega arith) in
+    record { fits = omega (arith, below, c.line_length.ensures, ap line_length c.rest_at.ensures) }

@@ -13,4 +13,4 @@ unfolding line_end
 slice_bounds-result-start c = omega arith
 
 pub slice_bounds-result-end : goal.slice_bounds-result-end
-slice_bounds-result-end c = rw c.line_bounds-b.ensures.1 (parts.part-within c.args.file.now c.args.number)
+slice_bounds-result-end c = rw c.line_bounds-start.ensures.1 (parts.part-within c.args.file.now c.args.number)

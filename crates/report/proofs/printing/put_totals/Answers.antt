@@ -11,9 +11,9 @@ use Rattle.report.proofs.printing.put_totals.Goals as goal
 use Rattle.report.proofs.printing.put_totals.Goals.{After-put_number-6}
 
 -- all but the line feed
-put : (c : After-put_number-6) → let a = c.args.account in c.put_number-6.new.buf ≡ number_put (number_put (number_put (number_put (number_put (number_put (set c.args.out.now 0 66) 1 8 c.args.today) 9 15 a.outstanding.0) 24 15 a.due.0) 39 11 a.fraction) 50 15 a.principal_paid.0) 65 15 a.interest_paid.0
+put : (c : After-put_number-6) → let a = c.args.totals.account in c.put_number-6.new.buf ≡ number_put (number_put (number_put (number_put (number_put (number_put (set c.args.out.now 0 66) 1 8 c.args.totals.today) 9 15 a.outstanding.0) 24 15 a.due.0) 39 11 a.fraction) 50 15 a.principal_paid.0) 65 15 a.interest_paid.0
 put c =
-    let a = c.args.account in
+    let a = c.args.totals.account in
     c.put_number-6.ensures
     ∙ ap
     (λ (b : List ℕ). number_put b 65 15 a.interest_paid.0)
@@ -39,4 +39,4 @@ bounds-out-80 c =
 
 pub returns : goal.returns
 returns c =
-    ap (λ (b : List ℕ). set b 80 10) (put (goal.at.returns c).After-put_number-6) ∙ totals_puts c.args.out.now c.args.today c.args.account c.requires
+    ap (λ (b : List ℕ). set b 80 10) (put (goal.at.returns c).After-put_number-6) ∙ totals_puts c.args.out.now c.args.totals.today c.args.totals.account c.requires

@@ -1,9 +1,0 @@
--- The measure is the places left.
-use Rattle.std.proofs.Common.{◌-◌, ◌≤◌}
-use Rattle.apportionment_vectors.proofs.read_weights.Given as goal
-
-abbrev pub invariant-loop-i : goal.invariant-loop-i
-invariant-loop-i l = l.i ≤ 64
-
-abbrev pub decreases-loop-i : goal.decreases-loop-i
-decreases-loop-i l = 64 - l.i

@@ -1,0 +1,30 @@
+// A book that calls reached, and what a call gives back: its answer and the book after it.
+ghost use Rattle.std.specs.Prelude.{◌≡◌};
+ghost use Rattle.book_model.specs.Book.{empty_book};
+ghost use Rattle.book_model.specs.Reached.{Reached};
+
+use crate::{Book, Refusal};
+
+// A book that calls reached from the empty one. Only calls make one, so that every call may rely on it.
+#[derive(Clone, Copy)]
+pub struct ReachedBook {
+    pub book: Book,
+    ghost reached: { ∥ Reached book ∥₁ },
+}
+
+impl ReachedBook {
+    pub fn empty() -> ReachedBook
+        ensures { result.book ≡ empty_book }
+    {
+        ReachedBook {
+            book: Book::empty(),
+        }
+    }
+}
+
+// A refused call gives back the book that came in.
+#[derive(Clone, Copy)]
+pub struct Called<T, E = Refusal> {
+    pub answer: Result<T, E>,
+    pub book: ReachedBook,
+}

@@ -1,0 +1,175 @@
+-- An order from its date on: its day, its place among the stored rates, and the replay under these rates.
+use Prim.Native.Nat.{ℕ, ◌+◌, ◌-◌, ◌≤◌, ◌<◌}
+use native.Mathlib.Omega.{arith}
+use mathlib.Core.Path.{◌≡◌, refl, ap, ◌∙◌}
+use mathlib.Core.Bool.{true, false, cond, not, ◌&&◌, ◌||◌}
+use mathlib.Core.List.{List, [], ◌∷◌, ◌++◌}
+use borrow.Author.Tests.{lt-ltb, le-ltb, le-leb, lt-leb}
+use lib.Dec.{leb, ltb}
+use lib.ListN.{length, take, drop, set}
+use lib.Seq.{length-take-le}
+use Rattle.std.specs.Prelude.{Result, Ok, Err, filter}
+use Rattle.general_laws.proofs.Choice.{by_order}
+use Rattle.calendar.specs.Calendar.{day_count}
+use Rattle.calendar.proofs.Callers.{Counted}
+use Rattle.rates.specs.Rate.{daily_of}
+use Rattle.account.specs.declared.Account.{Account}
+use Rattle.account.specs.declared.RateOrder.{RateOrder}
+use Rattle.account.specs.declared.Unreckoned.{Unreckoned}
+use Rattle.account.specs.Invariant.{Fits}
+use Rattle.account.specs.Reckoning.{replayed, standing}
+use Rattle.account.specs.Standing.{overpaid}
+use Rattle.account.proofs.Callers.{account-bounded, fits, is-over, replays, stands}
+use Rattle.book_model.specs.declared.Book.{Book}
+use Rattle.book_model.specs.declared.Refusal.TheVariants as refusal
+use Rattle.book_model.specs.Book.{rates_of, settlements_of}
+use Rattle.book_model.specs.Invariant.{OpenSound, Priced, Sound}
+use Rattle.book_model.specs.Outcome.{no_changes, accept, refuse}
+use Rattle.book_model.specs.Rate.{starting_before, changes_of, with_rates, revised, rated_from, rated}
+use Rattle.book_model.specs.Schedule.{daily_on}
+use Rattle.book_model.proofs.Callers.{rates_after, account_after, stored_is_daily, daily-most, moderate, count_most, length_with, priced_with, from_start_with, stored, stored_in_use}
+
+-- the specification's word for std's
+filtered : (day : ℕ) (os : List RateOrder) → filter (λ (o : RateOrder). ltb o.first.0 day) os ≡ starting_before day os
+unfolding starting_before
+filtered day [] = refl
+filtered day (o ∷ os) =
+    ap (λ (rest : List RateOrder). cond (ltb o.first.0 day) (o ∷ rest) rest) (filtered day os)
+
+outside : (n a b : ℕ) → ltb n (a + 0) || ltb b n ≡ not (leb a n && leb n b)
+outside n a b =
+    by_order n a (λ lt. rw (lt-ltb n (a + 0) (omega arith), lt-leb a n lt)) λ from.
+    by_order b n (λ lt. rw (le-ltb n (a + 0) (omega arith), lt-ltb b n lt, le-leb a n from, lt-leb n b lt))
+    (λ until. rw (le-ltb n (a + 0) (omega arith), le-ltb b n until, le-leb a n from, le-leb n b until))
+
+-- What is known once the date and the rate are right
+pub record Dated (b : Book) (date annual count first daily : ℕ) : Type 0 where
+  pub sound : Sound b
+  pub is_open : b.opened ≡ true
+  pub told : Counted date count
+  pub first-is : first ≡ day_count b.first
+  pub rate : (annual ≤ 4000) × (daily ≡ daily_of annual)
+
+module _ {b : Book} {date annual count first daily : ℕ} (h : Dated b date annual count first daily) where
+  pub was : OpenSound b
+  was = h.sound.when_open h.is_open
+
+  from-date : rated_from b count annual ≡ rated b date annual
+  unfolding rated
+  from-date = rw (h.is_open, h.told.is-date, le-ltb 4000 annual h.rate.0, h.told.is-count)
+
+  pub wrong_day : leb first count && leb count (first + b.today.0) ≡ false → refuse no_changes b refusal.Day ≡ rated b date annual
+  unfolding rated_from
+  wrong_day out = go ∙ from-date
+    where
+      go : refuse no_changes b refusal.Day ≡ rated_from b count annual
+      go = rw (← h.first-is, outside count first (first + b.today.0), out)
+
+-- and once the order has a place among the stored rates
+pub record Placed (b : Book) (date annual count first daily n : ℕ) : Type 0 where
+  pub dated : Dated b date annual count first daily
+  pub within : leb first count && leb count (first + b.today.0) ≡ true
+  pub place : n ≡ length (filter (λ (o : RateOrder). ltb o.first.0 (count - first)) (rates_of b))
+
+module _ {b : Book} {date annual count first daily n : ℕ} (p : Placed b date annual count first daily n) where
+  abbrev order : RateOrder
+  order = record { first = record { 0 = count - first }; annual = annual; daily = daily }
+
+  at_place : n ≡ length (starting_before (count - first) (rates_of b))
+  at_place = p.place ∙ ap length (filtered (count - first) (rates_of b))
+
+  pub full : 16 ≤ n → refuse no_changes b refusal.BookFull ≡ rated b date annual
+  unfolding rated_from
+  full le = go ∙ from-date p.dated
+    where
+      go : refuse no_changes b refusal.BookFull ≡ rated_from b count annual
+      go = rw (← p.dated.first-is, outside count first (first + b.today.0), p.within, ← at_place, le-leb 16 n le)
+
+  module _ (free : n < 16) where
+    of-order : revised b order ≡ rated b date annual
+    unfolding rated_from
+    of-order = go ∙ from-date p.dated
+      where
+        go : revised b order ≡ rated_from b count annual
+        go = rw (← p.dated.first-is, outside count first (first + b.today.0), p.within, ← at_place, lt-leb 16 n free, p.dated.rate.1)
+
+    room : b.rated ≤ length b.rates
+    room = omega (arith, (was p.dated).rates-most, p.dated.sound.room-rates)
+
+    most : n ≤ b.rated
+    most = omega (arith, at_place, count_most (count - first) (rates_of b), length-take-le b.rated b.rates room)
+
+    in_array : n < length b.rates
+    in_array = omega (arith, p.dated.sound.room-rates)
+
+    as_many : n + 1 ≡ length (rates_after b order)
+    as_many = omega (arith, at_place, length_with order (rates_of b))
+
+    in_use : take (n + 1) (set b.rates n order) ≡ rates_after b order
+    in_use = stored_in_use b.rates b.rated order (was p.dated).from_start n at_place most in_array
+
+    array : set b.rates n order ≡ rates_after b order ++ drop (length (rates_after b order)) b.rates
+    array =
+        stored b.rates b.rated order (was p.dated).from_start n at_place most in_array
+        ∙ ap (λ (k : ℕ). rates_after b order ++ drop k b.rates) as_many
+
+    priced : Priced (rates_after b order)
+    priced = priced_with order (rates_of b) p.dated.rate.0 p.dated.rate.1 (was p.dated).priced
+
+    abbrev daily_rates : ℕ → ℕ
+    daily_rates = daily_on (rates_after b order)
+
+    few : b.today.0 ≤ 6000
+    few = omega (arith, (was p.dated).within-term, (was p.dated).term-most)
+
+    module _ (r : Result Account Unreckoned) (replay : r ≡ replayed b.recognised.0 (take (n + 1) (set b.rates n order)) (settlements_of b) b.today.0) where
+      replayed-is : r ≡ standing b.recognised.0 daily_rates (settlements_of b) b.today.0
+      replayed-is =
+          replay
+          ∙ rw in_use
+          (replays b.recognised.0 (rates_after b order) (settlements_of b) b.today.0 (was p.dated).recognised-most few (omega (arith, as_many))
+          (omega (arith, (was p.dated).settlements-most, p.dated.sound.room-settlements, length-take-le b.settled b.settlements (omega (arith, (was p.dated).settlements-most, p.dated.sound.room-settlements)))) (moderate (rates_after b order) priced)
+          (from_start_with order (rates_of b) (was p.dated).from_start) (was p.dated).timely)
+          ∙ ap (λ (d : ℕ → ℕ). standing b.recognised.0 d (settlements_of b) b.today.0) (stored_is_daily (rates_after b order) priced)
+
+      pub over : (u : Unreckoned) → r ≡ Err u → refuse no_changes b refusal.Overpaid ≡ rated b date annual
+      unfolding revised
+      over u e = go ∙ of-order
+        where
+          go : refuse no_changes b refusal.Overpaid ≡ revised b order
+          go = rw (is-over b.recognised.0 daily_rates (settlements_of b) b.today.0 r replayed-is u e)
+
+      module _ (a : Account) (e : r ≡ Ok a) where
+        is : (overpaid b.recognised.0 daily_rates (settlements_of b) ≡ false) × (a ≡ account_after b order)
+        is = stands b.recognised.0 daily_rates (settlements_of b) b.today.0 r replayed-is a e
+
+        pub fits_after : Fits a
+        fits_after =
+            rw is.1
+            (fits b.today.0 (account_after b order) few
+            (account-bounded b.recognised.0 daily_rates (settlements_of b) (was p.dated).recognised-most
+            (daily-most (rates_after b order) priced) is.0 b.today.0))
+
+        abbrev after : Book
+        after =
+            record {
+              opened = b.opened;
+              first = b.first;
+              term = b.term;
+              today = b.today;
+              recognised = b.recognised;
+              account = a;
+              count = b.count;
+              positions = b.positions;
+              settled = b.settled;
+              settlements = b.settlements;
+              rated = n + 1;
+              rates = set b.rates n order;
+            }
+
+        pub stands_revised : accept (changes_of b.account a) after ≡ rated b date annual
+        unfolding revised with_rates
+        stands_revised = go ∙ of-order
+          where
+            go : accept (changes_of b.account a) after ≡ revised b order
+            go = rw (is.0, is.1, array, as_many)

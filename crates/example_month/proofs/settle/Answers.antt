@@ -1,6 +1,0 @@
--- The book after a settlement is reached, a refused one too.
-use Rattle.book_model.proofs.Callers.{settle-reached}
-use Rattle.example_month.proofs.settle.Goals as goal
-
-pub returns : goal.returns
-returns g c = settle-reached _ c.requires _ c.settle-settled.result c.settle-settled.ensures

@@ -1,6 +1,0 @@
--- The book after an opening is reached.
-use Rattle.book_model.proofs.Callers.{open_reached}
-use Rattle.often.proofs.settling.open_right.Goals as goal
-
-pub returns : goal.returns
-returns c = open_reached _ c.requires _ _ _ _ _ _ c.open_book-opened.result c.open_book-opened.ensures
