@@ -2,12 +2,12 @@
 use Prim.Native.Nat.{ℕ, zero, suc, ◌+◌, ◌≤◌, ◌<◌}
 use native.Mathlib.Omega.{arith}
 use mathlib.Core.Path.{◌≡◌, refl, ap, ◌∙◌}
-use mathlib.Core.Bool.{Bool, true, false, cond}
+use mathlib.Core.Bool.{Bool, false}
 use mathlib.Core.List.{List, [], ◌∷◌, ◌++◌}
 use mathlib.Core.Option.{Option, none, some}
 use borrow.Author.Tests.{ltb-false, le-ltb, eqb-true}
-use lib.Dec.{ltb, eqb}
-use Rattle.general_laws.proofs.Choice.{neither_true}
+use lib.Dec.{ltb}
+use Rattle.std.proofs.lemmas.Bool.{or_parts}
 use Rattle.account.specs.declared.Account.{Account}
 use Rattle.account.specs.declared.Settlement.{Settlement}
 use Rattle.account.specs.Accrual.{accrued_day, worth}
@@ -28,18 +28,8 @@ principal a = a.outstanding.0 + a.principal_paid.0
 none_over : (limit : ℕ → ℕ) (ss : List Settlement) (t m : ℕ)
     → some_of (λ (s : Settlement). ltb (limit s.day.0) s.cents.0) ss ≡ false → settled_on ss t ≡ some m → m ≤ limit t
 unfolding settled_on
-none_over limit [] t m e h = let z : ◌≡◌ {A = ℕ} 0 1 = cc in absurd (omega arith)
-none_over limit (s ∷ ss) t m e h =
-    let within = neither_true (ltb (limit s.day.0) s.cents.0) (some_of (λ (s : Settlement). ltb (limit s.day.0) s.cents.0) ss) e in
-    go (eqb s.day.0 t) refl h (ltb-false _ _ within.0) (none_over limit ss t m within.1)
-  where
-    go : (b : Bool) → eqb s.day.0 t ≡ b → cond b (some s.cents.0) (settled_on ss t) ≡ some m
-        → s.cents.0 ≤ limit s.day.0 → (settled_on ss t ≡ some m → m ≤ limit t) → m ≤ limit t
-    go true q p le ih =
-        let same : s.cents.0 ≡ m = cc in
-        let at = ap limit (eqb-true s.day.0 t q) in
-        omega arith
-    go false q p le ih = ih p
+none_over limit [] t m e h = cc
+none_over limit (s ∷ ss) t m e h = grind (arith, none_over limit ss t m, eqb-true s.day.0 t, ltb-false (limit s.day.0) s.cents.0)
 
 paid-whole : (p : Option ℕ) (a : Account) → ((m : ℕ) → p ≡ some m → m ≤ worth a) → principal (paying_off p a) ≡ principal a
 paid-whole none a h = refl
@@ -72,7 +62,7 @@ some-joined : (test : Settlement → Bool) (ss : List Settlement) (s : Settlemen
     → some_of test (ss ++ (s ∷ [])) ≡ false
 some-joined test [] s e f = rw f
 some-joined test (x ∷ ss) s e f =
-    let both = neither_true (test x) (some_of test ss) e in rw both.0 (some-joined test ss s both.1 f)
+    let both = or_parts (test x) (some_of test ss) e in rw both.0 (some-joined test ss s both.1 f)
 
 -- tests that are the same up to a day, of settlements before it
 some_same : (f g : Settlement → Bool) (day : ℕ) → ((s : Settlement) → s.day.0 < day → f s ≡ g s)

@@ -1,22 +1,19 @@
 -- What the range tests say.
-use Prim.Native.Nat.{ℕ, ◌+◌, ◌≤◌, ◌<◌}
+use Prim.Native.Nat.{ℕ, ◌≤◌, ◌<◌}
 use native.Mathlib.Omega.{arith}
-use native.Mathlib.Numerals.{add-one}
 use mathlib.Core.Path.{◌≡◌, refl}
-use mathlib.Core.Bool.{true, false, ◌&&◌}
+use mathlib.Core.Bool.{true, false}
 use mathlib.Core.List.{List, [], ◌∷◌}
 use borrow.Author.Tests.{ltb-true, leb-true, lt-ltb, le-ltb, le-leb, eq-eqb}
 use lib.Dec.{ltb}
-use lib.ListN.{length, drop, get_or, drop_of_length-le}
-use lib.Seq.{drop-cons}
-use Rattle.general_laws.proofs.Choice.{both_true, by-test}
+use Rattle.general_laws.proofs.Choice.{by-test}
+use Rattle.std.proofs.lemmas.Bool.{and_parts}
 use Rattle.std.proofs.lemmas.Grind.{common_steps}
 use Rattle.rates.specs.Rate.{greatest_daily}
 use Rattle.account.specs.declared.Account.{Account}
 use Rattle.account.specs.declared.RateOrder.{RateOrder}
 use Rattle.account.specs.declared.Settlement.{Settlement}
-use Rattle.account.specs.Ranges.{is_account, is_first, is_next, is_rising, is_schedule, is_timely}
-use Rattle.account.specs.Opening.{no_order}
+use Rattle.account.specs.Ranges.{is_account, is_next, is_rising, is_schedule, is_timely}
 use Rattle.account.specs.Invariant.{Fits, Moderate, Rising, FromStart, Timely}
 use Rattle.account.proofs.Timeline.{timely-most}
 
@@ -43,8 +40,8 @@ pub rising_says : (day : ℕ) (os : List RateOrder) → is_rising day os ≡ tru
 unfolding is_rising
 rising_says day [] e = tt
 rising_says day (o ∷ os) e =
-    let h = both_true (is_next day o) _ e in
-    (ltb-true _ _ (both_true (ltb day o.first.0) _ h.0).0, rising_says o.first.0 os h.1)
+    let h = and_parts (is_next day o) _ e in
+    (ltb-true _ _ (and_parts (ltb day o.first.0) _ h.0).0, rising_says o.first.0 os h.1)
 
 rising-told : (day : ℕ) (os : List RateOrder) → Moderate os → Rising day os → is_rising day os ≡ true
 unfolding is_rising
@@ -58,33 +55,13 @@ schedule_told [] m h = absurd h
 schedule_told (o ∷ os) m h =
     rw (eq-eqb o.first.0 0 h.0, le-leb o.daily greatest_daily m.0) (rising-told o.first.0 os m.1 h.1)
 
-pub no_orders : (os : List RateOrder) → length os ≡ 0 → is_schedule os ≡ false
-unfolding is_schedule
-no_orders [] e = refl
-no_orders (o ∷ os) e = absurd (omega arith)
-
-pub unscheduled : (o : RateOrder) (os : List RateOrder) → is_first o ≡ false → is_schedule (o ∷ os) ≡ false
-unfolding is_schedule
-unscheduled o os e = rw e
-
--- from a place on
-
-module _ (os : List RateOrder) (day i : ℕ) where
-  pub all_rising : length os ≤ i → is_rising day (drop i os) ≡ true
-  unfolding is_rising
-  all_rising le = rw (drop_of_length-le os le)
-
-  pub turned : i < length os → is_rising day (drop i os) ≡ is_next day (get_or os i no_order) && is_rising (get_or os i no_order).first.0 (drop (i + 1) os)
-  unfolding is_rising
-  turned lt = rw (add-one, drop-cons os i no_order)
-
 -- settlements in order
 
 pub timely_says : (day : ℕ) (ss : List Settlement) (today : ℕ) → is_timely day ss today ≡ true → Timely day ss today
 unfolding is_timely
 timely_says day [] today e = leb-true _ _ e
 timely_says day (s ∷ ss) today e =
-    let h = both_true (ltb day s.day.0) _ e in (ltb-true _ _ h.0, timely_says s.day.0 ss today h.1)
+    let h = and_parts (ltb day s.day.0) _ e in (ltb-true _ _ h.0, timely_says s.day.0 ss today h.1)
 
 pub timely-told : (day : ℕ) (ss : List Settlement) (today : ℕ) → Timely day ss today → is_timely day ss today ≡ true
 unfolding is_timely
@@ -95,7 +72,7 @@ pub not_later : (day : ℕ) (s : Settlement) (ss : List Settlement) (today : ℕ
 unfolding is_timely
 not_later day s ss today le = rw (le-ltb day s.day.0 le)
 
-pub after-today : (day : ℕ) (s : Settlement) (ss : List Settlement) (today : ℕ) → today < s.day.0 → is_timely day (s ∷ ss) today ≡ false
-after-today day s ss today late =
+pub after_today : (day : ℕ) (s : Settlement) (ss : List Settlement) (today : ℕ) → today < s.day.0 → is_timely day (s ∷ ss) today ≡ false
+after_today day s ss today late =
     by-test (is_timely day (s ∷ ss) today)
     (λ e. let most = timely-most s.day.0 ss today (timely_says day (s ∷ ss) today e).1 in absurd (omega arith)) (λ e. e)

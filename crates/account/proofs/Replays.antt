@@ -1,17 +1,17 @@
 -- The account evaluated from settlement to settlement is the account as a function of the day.
 use Prim.Native.Nat.{ℕ, ◌+◌, ◌-◌, ◌≤◌, ◌<◌}
 use native.Mathlib.Omega.{arith}
-use native.Mathlib.Numerals.{add-one}
 use mathlib.Core.Path.{◌≡◌, refl, sym, ap, ◌∙◌}
-use mathlib.Core.Bool.{Bool, true, false, cond, not, ◌||◌}
+use mathlib.Core.Bool.{Bool, true, false, cond, not}
 use mathlib.Core.Option.{none}
 use mathlib.Core.List.{List, [], ◌∷◌, ◌++◌, append-nil}
 use borrow.Author.Tests.{ne_eqb, eqb-true, lt-ltb, le-ltb, le-leb}
 use lib.Dec.{ltb, eqb}
 use lib.ListN.{length, drop, get_or, drop_of_length-le}
-use lib.Seq.{append_snoc, drop-cons}
-use Rattle.general_laws.proofs.Choice.{both_true}
+use lib.Seq.{append_snoc}
+use Rattle.std.proofs.lemmas.Bool.{and_parts}
 use Rattle.std.specs.Prelude.{Result, Ok, Err}
+use Rattle.std.proofs.lemmas.List.{drop_more}
 use Rattle.account.specs.declared.Account.{Account}
 use Rattle.account.specs.declared.RateOrder.{RateOrder}
 use Rattle.account.specs.declared.Settlement.{Settlement}
@@ -67,23 +67,8 @@ module _ (cents : ℕ) (daily : ℕ → ℕ) where
       let begins = begins-next done s ss today here timely.1 in
       let after : (t : ℕ) → s.day.0 < t → settled_on (done ++ (s ∷ [])) t ≡ none =
       λ t lt. settled-other done s t (λ e. omega arith) ∙ quiet t (omega (arith, timely.0)) in
-      let ih = replay-from (done ++ (s ∷ [])) ss s.day.0 today after timely.1 in
-      rw ahead (go _ _ begins (rw (append_snoc done s ss, account_paid_off cents daily done s here) at ih))
-    where
-      go : (b e : Account) → b ≡ e
-          → replay_from daily (paid_off s.cents.0 b) s.day.0 ss today
-          ≡ cond (some_of (is_over cents daily (done ++ s ∷ ss)) ss) (Err Overpaid) (Ok (account_at cents daily (done ++ s ∷ ss) today))
-          → cond (ltb (worth b) s.cents.0) (Err Overpaid) (replay_from daily (paid_off s.cents.0 b) s.day.0 ss today)
-          ≡ cond (ltb (worth e) s.cents.0 || some_of (is_over cents daily (done ++ s ∷ ss)) ss) (Err Overpaid)
-          (Ok (account_at cents daily (done ++ s ∷ ss) today))
-      go b e same ih = rw (← same) (by (ltb (worth b) s.cents.0))
-        where
-          by : (t : Bool)
-              → cond t (Err Overpaid) (replay_from daily (paid_off s.cents.0 b) s.day.0 ss today)
-              ≡ cond (t || some_of (is_over cents daily (done ++ s ∷ ss)) ss) (Err Overpaid)
-              (Ok (account_at cents daily (done ++ s ∷ ss) today))
-          by true = refl
-          by false = ih
+      let ih = rw (append_snoc done s ss, account_paid_off cents daily done s here, begins) at (replay-from (done ++ (s ∷ [])) ss s.day.0 today after timely.1) in
+      rw (ahead, begins) (grind arith)
 
   -- the whole replay
   pub replay-whole : (ss : List Settlement) (today : ℕ) → Timely 0 ss today → replay_from daily (opening cents) 0 ss today ≡ standing cents daily ss today
@@ -119,16 +104,6 @@ tested_same false timely r r' e = refl
 tested_same true false r r' e = refl
 tested_same true true r r' e = e refl refl
 
-abbrev over_one : Result Account Unreckoned
-over_one = Err Overpaid
-
-abbrev out_of_range : Result Account Unreckoned
-out_of_range = Err OutOfRange
-
--- what is left of the settlements begins with the one at hand
-at-hand : (ss : List Settlement) (i : ℕ) → i < length ss → drop i ss ≡ get_or ss i no_settlement ∷ drop (i + 1) ss
-at-hand ss i lt = rw (drop-cons ss i no_settlement, add-one i)
-
 -- the orders, or the settlement at hand, are out of order
 pub unordered : (over : Bool) (w : Elapsed) (ss : List Settlement) (today : ℕ) → is_rising w.order.now.first.0 w.later.now ≡ false
     → left_of over w ss today ≡ Err OutOfRange
@@ -138,11 +113,7 @@ unordered over w ss today e = rw e
 pub untimely : (over : Bool) (w : Elapsed) (ss : List Settlement) (i today : ℕ) → i < length ss
     → is_timely w.day.0 (get_or ss i no_settlement ∷ drop (i + 1) ss) today ≡ false → left_of over w (drop i ss) today ≡ Err OutOfRange
 unfolding left_of
-untimely over w ss i today lt e = rw (at-hand ss i lt, e) (go (is_rising w.order.now.first.0 w.later.now))
-  where
-    go : (b : Bool) → cond (not b) (Err OutOfRange) (Err OutOfRange) ≡ out_of_range
-    go true = refl
-    go false = refl
+untimely over w ss i today lt e = rw (drop_more ss i no_settlement lt, e) (grind arith)
 
 module _ (over : Bool) {before w : Elapsed} (g : Went before w) (ss : List Settlement) (i today : ℕ) where
   module _ (lt : i < length ss) (day : w.day.0 ≡ (get_or ss i no_settlement).day.0) (later : before.day.0 < (get_or ss i no_settlement).day.0) where
@@ -153,24 +124,20 @@ module _ (over : Bool) {before w : Elapsed} (g : Went before w) (ss : List Settl
     unfolding replay_from
     turned r = rw (rw day at (g.is-elapsed r))
 
-    over_stays : (b : Bool) → cond b over_one over_one ≡ over_one
-    over_stays true = refl
-    over_stays false = refl
-
     -- a settlement that is over
     pub turn_over : worth w.account < (get_or ss i no_settlement).cents.0 → left_of over before (drop i ss) today ≡ left_of true w (drop (i + 1) ss) today
     unfolding left_of is_timely
     turn_over h =
-        rw (at-hand ss i lt, ← g.left, day, lt-ltb before.day.0 (get_or ss i no_settlement).day.0 later)
+        rw (drop_more ss i no_settlement lt, ← g.left, day, lt-ltb before.day.0 (get_or ss i no_settlement).day.0 later)
         (tested_same (is_rising before.order.now.first.0 before.later.now) (is_timely (get_or ss i no_settlement).day.0 (drop (i + 1) ss) today) _ _
-        (λ r t. rw (turned r, lt-ltb (worth w.account) (get_or ss i no_settlement).cents.0 h) (over_stays over)))
+        (λ r t. rw (turned r, lt-ltb (worth w.account) (get_or ss i no_settlement).cents.0 h) (grind arith)))
 
     -- one that is not
     pub turn_paid : (get_or ss i no_settlement).cents.0 ≤ worth w.account
         → left_of over before (drop i ss) today ≡ left_of over (with_account w (paid_off (get_or ss i no_settlement).cents.0 w.account)) (drop (i + 1) ss) today
     unfolding left_of is_timely
     turn_paid h =
-        rw (at-hand ss i lt, ← g.left, day, lt-ltb before.day.0 (get_or ss i no_settlement).day.0 later)
+        rw (drop_more ss i no_settlement lt, ← g.left, day, lt-ltb before.day.0 (get_or ss i no_settlement).day.0 later)
         (tested_same (is_rising before.order.now.first.0 before.later.now) (is_timely (get_or ss i no_settlement).day.0 (drop (i + 1) ss) today) _ _
         (λ r t. rw (turned r, le-ltb (worth w.account) (get_or ss i no_settlement).cents.0 h)
         (ap (cond over (Err Overpaid))
@@ -178,13 +145,12 @@ module _ (over : Bool) {before w : Elapsed} (g : Went before w) (ss : List Settl
         (timely_says (get_or ss i no_settlement).day.0 (drop (i + 1) ss) today t) (λ t le. g.same-rates r t (omega arith))))))
 
   -- behind the last settlement
-  pub ended : length ss ≤ i → w.day.0 ≡ today → left_of over before (drop i ss) today
-      ≡ cond (not (is_rising w.order.now.first.0 w.later.now)) (Err OutOfRange) (cond over (Err Overpaid) (Ok w.account))
+  pub ended : length ss ≤ i → w.day.0 ≡ today → is_rising w.order.now.first.0 w.later.now ≡ true
+      → left_of over before (drop i ss) today ≡ cond over (Err Overpaid) (Ok w.account)
   unfolding left_of is_timely replay_from
-  ended le day =
-      let most : before.day.0 ≤ today = omega (arith, g.since) in
-      rw (drop_of_length-le ss le, ← g.left, le-leb before.day.0 today most)
-      (tested_same (is_rising before.order.now.first.0 before.later.now) true _ _ (λ r t. rw (rw day at (g.is-elapsed r))))
+  ended le day right =
+      let rising = g.left ∙ right in
+      rw (drop_of_length-le ss le, rising, le-leb before.day.0 today (omega (arith, g.since)), rw day at (g.is-elapsed rising))
 
 -- what is left at the start is all
 pub left_all : (cents today : ℕ) (w : Elapsed) (ss : List Settlement) (rates : List RateOrder) → rates ≡ w.order.now ∷ w.later.now
@@ -201,4 +167,4 @@ left_all cents today w ss rates e account day first =
     ∙ replay-whole cents (stored_on (w.order.now ∷ w.later.now)) ss today timely))
   where
     begun : w.order.now.first.0 ≡ 0
-    begun = eqb-true _ _ (both_true (eqb w.order.now.first.0 0) _ first).0
+    begun = eqb-true _ _ (and_parts (eqb w.order.now.first.0 0) _ first).0

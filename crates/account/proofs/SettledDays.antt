@@ -2,7 +2,7 @@
 use Prim.Native.Nat.{ℕ, ◌≤◌, ◌<◌}
 use native.Mathlib.Omega.{arith}
 use mathlib.Core.Path.{◌≡◌, refl, sym, ap, ◌∙◌}
-use mathlib.Core.Bool.{Bool, true, false, cond}
+use mathlib.Core.Bool.{cond}
 use mathlib.Core.List.{List, [], ◌∷◌, ◌++◌}
 use mathlib.Core.Option.{Option, none, some}
 use borrow.Author.Tests.{eqb-true, eqb-false, eq-eqb, ne_eqb}
@@ -50,12 +50,7 @@ settled-first (s ∷ ss) more t h =
 pub settled_then : (ss more : List Settlement) (t : ℕ) → settled_on ss t ≡ none → settled_on (ss ++ more) t ≡ settled_on more t
 unfolding settled_on
 settled_then [] more t h = refl
-settled_then (s ∷ ss) more t h = go (eqb s.day.0 t) h (settled_then ss more t)
-  where
-    go : (b : Bool) → cond b (some s.cents.0) (settled_on ss t) ≡ none → (settled_on ss t ≡ none → settled_on (ss ++ more) t ≡ settled_on more t)
-        → cond b (some s.cents.0) (settled_on (ss ++ more) t) ≡ settled_on more t
-    go true e ih = let z : ◌≡◌ {A = ℕ} 0 1 = cc in absurd (omega arith)
-    go false e ih = ih e
+settled_then (s ∷ ss) more t h = grind (arith, settled_then ss more t)
 
 -- One settlement more
 

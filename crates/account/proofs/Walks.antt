@@ -6,7 +6,7 @@ use mathlib.Core.Bool.{true, false}
 use mathlib.Core.List.{List, [], ◌∷◌}
 use borrow.Author.Tests.{ltb-true, eqb-true, leb-true, le-leb}
 use lib.Dec.{ltb, eqb}
-use Rattle.general_laws.proofs.Choice.{both_true}
+use Rattle.std.proofs.lemmas.Bool.{and_parts}
 use Rattle.account.specs.declared.RateOrder.{RateOrder}
 use Rattle.account.specs.declared.walking.Elapsed.{Elapsed}
 use Rattle.account.specs.Accrual.{accrued_days}
@@ -14,7 +14,7 @@ use Rattle.account.specs.Invariant.{Bounded}
 use Rattle.account.specs.Opening.{opening}
 use Rattle.account.specs.Ranges.{is_first, is_next, is_rising}
 use Rattle.account.specs.Schedule.{in_force}
-use Rattle.account.specs.Walk.{elapsed, ahead, Until, Next, Come, Went}
+use Rattle.account.specs.Walk.{elapsed, ahead, Until, Next, Come, Went, passed}
 use Rattle.account.proofs.Bounds.{bounded-opening, bounded-days}
 use Rattle.account.proofs.RangeTests.{rising_says}
 use Rattle.account.proofs.Segments.{elapsed-add, elapsed_constant, none_until}
@@ -26,7 +26,7 @@ next-from-start first (o ∷ os) = λ e. omega arith
 -- the walk at the opening
 pub begins : (cents : ℕ) (w : Elapsed) → cents ≤ 1000000000000 → w.account ≡ opening cents → w.day.0 ≡ 0 → is_first w.order.now ≡ true → Come w
 begins cents w small account day first =
-    let h = both_true (eqb w.order.now.first.0 0) _ first in
+    let h = and_parts (eqb w.order.now.first.0 0) _ first in
     record {
       bounded = rw (account, day) (bounded-opening cents small);
       begun = omega (arith, eqb-true w.order.now.first.0 0 h.0);
@@ -47,7 +47,7 @@ until-next first day (o ∷ os) until = λ _. until
 
 next-of : (first : ℕ) (os : List RateOrder) → Next first first os
 next-of first [] = tt
-next-of first (o ∷ os) = λ e. let h = ltb-true first o.first.0 (both_true (ltb first o.first.0) _ e).0 in omega arith
+next-of first (o ∷ os) = λ e. let h = ltb-true first o.first.0 (and_parts (ltb first o.first.0) _ e).0 in omega arith
 
 module _ {before w : Elapsed} (g : Went before w) where
   -- the days up to one that the next order doesn't precede, at the daily rate of the order at hand
@@ -72,21 +72,20 @@ module _ {before w : Elapsed} (g : Went before w) where
       (bounded-days w.day.0 (to - w.day.0) w.order.now.daily w.account g.come.low g.come.bounded)
 
   -- up to the end
-  pub walk_ends : (after : Elapsed) → w.day.0 ≤ after.day.0 → Until after.day.0 w.later.now → after.order.now ≡ w.order.now → after.later.now ≡ w.later.now
-      → after.account ≡ accrued_days (after.day.0 - w.day.0) w.order.now.daily w.account → Went before after
-  walk_ends after le until same rest e =
+  pub walk_ends : (to : ℕ) → w.day.0 ≤ to → Until to w.later.now → Went before (passed to w)
+  walk_ends to le until =
       record {
         come =
             record {
-              bounded = rw e (bounded_to after.day.0 le);
-              begun = rw same (omega (arith, g.come.begun));
-              low = rw same g.come.low;
-              next = rw (same, rest) (until-next _ _ w.later.now until);
+              bounded = bounded_to to le;
+              begun = omega (arith, g.come.begun);
+              low = g.come.low;
+              next = until-next _ _ w.later.now until;
             };
         since = omega (arith, g.since);
-        left = rw (same, rest) g.left;
-        same-rates = λ r t low. rw (same, rest) (g.same-rates r t (omega arith));
-        is-elapsed = λ r. e ∙ stretch after.day.0 le until r;
+        left = g.left;
+        same-rates = λ r t low. g.same-rates r t (omega arith);
+        is-elapsed = λ r. stretch to le until r;
       }
 
   module _ (o : RateOrder) (os : List RateOrder) (rest : w.later.now ≡ o ∷ os) where
@@ -100,17 +99,17 @@ module _ {before w : Elapsed} (g : Went before w) where
     no_earlier right = (rw rest at g.come.next) right
 
     -- and the walk comes to it on its first day
-    pub walk-next : is_next w.order.now.first.0 o ≡ true → (after : Elapsed) → after.day ≡ o.first → after.order.now ≡ o → after.later.now ≡ os
-        → after.account ≡ accrued_days (o.first.0 - w.day.0) w.order.now.daily w.account → Went before after
+    pub walk-next : is_next w.order.now.first.0 o ≡ true → (after : Elapsed) → after.order.now ≡ o → after.later.now ≡ os
+        → after.day ≡ o.first → after.account ≡ (passed o.first.0 w).account → Went before after
     unfolding is_rising in_force
-    walk-next right after day order later e =
+    walk-next right after order later day e =
         let le = no_earlier right in
         record {
           come =
               record {
                 bounded = rw (e, day) (bounded_to o.first.0 le);
                 begun = rw (order, day) (omega arith);
-                low = rw order (leb-true _ _ (both_true (ltb w.order.now.first.0 o.first.0) _ right).1);
+                low = rw order (leb-true _ _ (and_parts (ltb w.order.now.first.0 o.first.0) _ right).1);
                 next = rw (order, later, day) (next-of o.first.0 os);
               };
           since = rw day (omega (arith, g.since));

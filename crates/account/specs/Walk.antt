@@ -7,7 +7,7 @@ use Rattle.account.specs.declared.Settlement.{Settlement}
 use Rattle.account.specs.declared.Unreckoned.{Unreckoned}
 use Rattle.account.specs.declared.Unreckoned.TheVariants.{Overpaid, OutOfRange}
 use Rattle.account.specs.declared.walking.Elapsed.{Elapsed}
-use Rattle.account.specs.Accrual.{accrued_day, paid_off, worth}
+use Rattle.account.specs.Accrual.{accrued_day, accrued_days, paid_off, worth}
 use Rattle.account.specs.Invariant.{Bounded}
 use Rattle.account.specs.Ranges.{is_next, is_rising, is_timely}
 use Rattle.account.specs.Schedule.{in_force}
@@ -37,6 +37,16 @@ pub record Come (w : Elapsed) : Type 0 where
   pub begun : w.order.now.first.0 ≤ w.day.0
   pub low : w.order.now.daily ≤ greatest_daily
   pub next : Next w.order.now.first.0 w.day.0 w.later.now
+
+-- a walk at a later day that the next order doesn't precede: the days up to it are days at the rate of the order at hand
+abbrev pub passed : ℕ → Elapsed → Elapsed
+passed day w =
+    record {
+      account = accrued_days (day - w.day.0) w.order.now.daily w.account;
+      day = record { 0 = day };
+      order = w.order;
+      later = w.later;
+    }
 
 -- a walk went on from one day to another: the orders that it passed are right, and each day has its own rate
 pub record Went (before after : Elapsed) : Type 0 where

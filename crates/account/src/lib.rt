@@ -3,6 +3,8 @@
 #![tactic(auto)]
 
 ghost use Rattle.std.specs.Prelude.{◌≡◌};
+ghost use Rattle.account.specs.Accrual.{worth};
+ghost use Rattle.account.specs.Invariant.{Fits};
 ghost use Rattle.account.specs.Opening.{opening};
 
 mod accrual;
@@ -57,11 +59,11 @@ impl Account {
     pub const CENT: u64 = 10000000000;
 
     // The most cents of each figure, the greatest daily rate, and the last day.
-    pub const CENTS: u64 = 1000000000000;
+    pub const CENTS: Cents = Cents(1000000000000);
 
     pub const DAILY: u64 = rates::GREATEST_DAILY;
 
-    pub const DAYS: u32 = 6000;
+    pub const DAYS: Day = Day(6000);
 
     // The account of a right as it opens: everything is outstanding.
     #[tactic(auto, unfolding(crate::specs::Opening::opening))]
@@ -75,6 +77,14 @@ impl Account {
             principal_paid: Cents(0),
             interest_paid: Cents(0),
         }
+    }
+
+    // Due plus outstanding: no settlement may be over it.
+    fn worth(self) -> Cents
+        requires fits { Fits self }
+        ensures { result.0 ≡ worth self }
+    {
+        Cents(self.due.0 + self.outstanding.0)
     }
 }
 

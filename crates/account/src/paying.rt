@@ -21,19 +21,14 @@ pub fn pay_off(account: Account, cents: Cents) -> Account
     requires cents_bound { cents.0 ≤ worth account }
     ensures { result ≡ paid_off cents.0 account }
 {
-    let due = account.due;
-    let interest = interest_of(cents, due);
+    let interest = interest_of(cents, account.due);
     let principal = cents.0 - interest.0;
-    let left = account.outstanding.0 - principal;
-    let unpaid = due.0 - interest.0;
-    let principal_paid = account.principal_paid.0 + principal;
-    let interest_paid = account.interest_paid.0 + interest.0;
     Account {
-        outstanding: Cents(left),
-        due: Cents(unpaid),
-        fraction: account.fraction,
-        principal_paid: Cents(principal_paid),
-        interest_paid: Cents(interest_paid),
+        outstanding: Cents(account.outstanding.0 - principal),
+        due: Cents(account.due.0 - interest.0),
+        principal_paid: Cents(account.principal_paid.0 + principal),
+        interest_paid: Cents(account.interest_paid.0 + interest.0),
+        ..account
     }
 }
 
@@ -44,7 +39,7 @@ pub fn pay(account: Account, cents: Cents) -> Result<Account, Unreckoned>
     if !is_account(account) {
         return Err(Unreckoned::OutOfRange);
     }
-    if account.due.0 + account.outstanding.0 < cents.0 {
+    if account.worth() < cents {
         return Err(Unreckoned::Overpaid);
     }
     Ok(pay_off(account, cents))

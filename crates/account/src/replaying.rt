@@ -10,24 +10,26 @@ use crate::{Account, Cents, Day, RateOrder, Settlement, Unreckoned};
 
 // From a day to today, settlement by settlement: the cost follows settlements and rates, not days. Each settlement and each order is
 // tested as the walk comes to it. A settlement that is over is not paid, and the walk goes on: numbers out of range are told before it.
+#[tactic(auto, using(crate::proofs::RangeTests::not_later, crate::proofs::RangeTests::after_today, crate::proofs::Replays::unordered, crate::proofs::Replays::untimely))]
 fn replay_from(
     start: Elapsed,
     settlements: &[Settlement],
     today: Day,
 ) -> Result<Account, Unreckoned>
     requires come { Come start }
+    // At most 6,000 days is no invariant of `Day`, since every entry takes any numbers.
     requires today_bound { (start.day.0 ≤ today.0) × (today.0 ≤ 6000) }
     ensures { result ≡ left_of false start.entry settlements.now today.0 }
 {
     let mut walk = start;
-    let mut over = false;
+    let mut outcome = Ok(());
     for settlement in settlements {
         if settlement.day <= walk.day || today < settlement.day {
             return Err(Unreckoned::OutOfRange);
         }
         walk = elapse(walk, settlement.day)?;
-        if walk.account.due.0 + walk.account.outstanding.0 < settlement.cents.0 {
-            over = true;
+        if walk.account.worth() < settlement.cents {
+            outcome = Err(Unreckoned::Overpaid);
         } else {
             walk.account = pay_off(walk.account, settlement.cents);
         }
@@ -36,13 +38,11 @@ fn replay_from(
     if !are_rising(last.order, last.later) {
         return Err(Unreckoned::OutOfRange);
     }
-    if over {
-        return Err(Unreckoned::Overpaid);
-    }
+    outcome?;
     Ok(last.account)
 }
 
-#[tactic(auto, unfolding(crate::specs::Reckoning::replayed))]
+#[tactic(auto, using(crate::proofs::Replays::left_all), unfolding(crate::specs::Ranges::is_schedule, crate::specs::Reckoning::replayed))]
 pub fn replay(
     recognised: Cents,
     rates: &[RateOrder],
@@ -51,16 +51,14 @@ pub fn replay(
 ) -> Result<Account, Unreckoned>
     ensures { result ≡ replayed recognised.0 rates.now settlements.now today.0 }
 {
-    if Account::CENTS < recognised.0
-        || Account::DAYS < today.0
+    if Account::CENTS < recognised
+        || Account::DAYS < today
         || Account::RATES < rates.len()
         || Account::SETTLEMENTS < settlements.len()
     {
         return Err(Unreckoned::OutOfRange);
     }
-    let Some((order, later)) = rates.split_first() else {
-        return Err(Unreckoned::OutOfRange);
-    };
+    let (order, later) = rates.split_first().ok_or(Unreckoned::OutOfRange)?;
     if !is_first(order) {
         return Err(Unreckoned::OutOfRange);
     }

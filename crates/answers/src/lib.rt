@@ -16,8 +16,5 @@ pub trait Numbered {
 pub fn number_of<T: Drop, E: Numbered>(answer: Result<T, E>) -> u32
     ensures { result ≡ number_in E.number answer }
 {
-    match answer {
-        Ok(_) => 0,
-        Err(refusal) => refusal.number(),
-    }
+    answer.err().map_or(0, E::number)
 }

@@ -1,23 +1,20 @@
 -- The answer in each case: what is refused, and what is divided.
 use Prim.Native.Nat.{ℕ, ◌+◌, ◌≤◌, ◌<◌, min}
 use native.Mathlib.Omega.{arith}
-use mathlib.Core.Path.{◌≡◌, ◌∙◌}
-use mathlib.Core.List.{List, [], ◌∷◌}
+use mathlib.Core.Path.{◌≡◌}
+use mathlib.Core.List.{List}
 use lib.ListN.{length}
 use borrow.Author.Tests.{le-ltb, ne_eqb}
 use Rattle.std.specs.Prelude.{Ok}
 use Rattle.std.specs.List.{fold}
-use Rattle.general_laws.specs.Sums.{total}
+use Rattle.std.proofs.lemmas.List.Folds.{fold_along}
 use Rattle.apportionment.specs.Apportionment.{total_weight, part, padded, apportioned}
 
 -- a sum that stops at a greatest number
-from_capped : (g : ℕ) (ws : List ℕ) (t : ℕ) → t ≤ g → fold (λ s w. min (s + w) g) t ws ≡ min (t + total ws) g
-from_capped g [] t le = omega arith
-from_capped g (w ∷ ws) t le = from_capped g ws (min (t + w) g) (omega arith) ∙ omega arith
-
 pub fold_capped : (g : ℕ) (ws : List ℕ) → fold (λ s w. min (s + w) g) 0 ws ≡ min (total_weight ws) g
 unfolding total_weight
-fold_capped g ws = from_capped g ws 0 (omega arith) ∙ omega arith
+fold_capped g ws =
+    fold_along (λ s w. min (s + w) g) (λ s w. s + w) (λ s t. s ≡ min t g) (λ s t w e. omega arith) 0 0 ws (omega arith)
 
 -- the parts, where nothing is refused
 pub divides : (m : ℕ) (ws : List ℕ) → 0 < length ws → length ws ≤ 64 → m ≤ 100000000000 → 0 < total_weight ws → total_weight ws ≤ 92000000 → apportioned m ws ≡ Ok (padded (length ws) (part m ws))

@@ -8,7 +8,8 @@ use mathlib.Core.List.{List, [], ◌∷◌}
 use lib.Dec.{ltb}
 use lib.ListN.{length}
 use borrow.Author.Tests.{ltb-true, lt-ltb, le-ltb}
-use Rattle.general_laws.specs.Sums.{total, sum_below, count_below}
+use Rattle.std.specs.List.{sum}
+use Rattle.general_laws.specs.Sums.{sum_below, count_below}
 use Rattle.general_laws.proofs.Choice.{by_order}
 use Rattle.general_laws.proofs.Counts.{bit_most, bit_false, count_le}
 use Rattle.general_laws.proofs.Totals.{sum-total}
@@ -62,7 +63,7 @@ module _ (m : ℕ) (ws : List ℕ) (some : 0 < total_weight ws) where
   unfolding total_weight
   positions-some = go ws some
     where
-      go : (l : List ℕ) → 0 < total l → 0 < length l
+      go : (l : List ℕ) → 0 < sum l → 0 < length l
       go [] h = absurd (omega arith)
       go (x ∷ l) h = omega arith
 

@@ -1,12 +1,13 @@
 -- Of n positions ordered by remainder, greatest first and earlier first among equals, exactly l have a rank below l.
 use Prim.Native.Nat.{ℕ, zero, suc, ◌+◌, ◌≤◌, ◌<◌}
 use native.Mathlib.Omega.{arith}
-use mathlib.Core.Path.{◌≡◌, sym, ap, ◌∙◌}
+use mathlib.Core.Path.{◌≡◌, ap}
 use mathlib.Core.Bool.{true, false, cond}
 use lib.Dec.{ltb}
-use borrow.Author.Tests.{ltb-true, lt-ltb, le-ltb, eq-eqb, ne_eqb}
+use Rattle.std.proofs.lemmas.Bool.Decides.{nat_tests}
+use borrow.Author.Tests.{lt-ltb, le-ltb}
 use Rattle.general_laws.specs.Sums.{count_below}
-use Rattle.general_laws.proofs.Choice.{by_order, true_not_false, ltb_same}
+use Rattle.general_laws.proofs.Choice.{by_order, ltb_same}
 use Rattle.general_laws.proofs.Counts.{bit_true, bit_false, count_same, count_le, count_lt, count-suc, count_most}
 use Rattle.apportionment.specs.Apportionment.{comes_before, rank}
 
@@ -17,37 +18,19 @@ module _ (r : ℕ → ℕ) (j k : ℕ) where
   unfolding comes_before
   greater_before h = rw (lt-ltb (r k) (r j) h)
 
-  pub equal_before : r j ≡ r k → comes_before r j k ≡ ltb j k
-  unfolding comes_before
-  equal_before h = rw (le-ltb (r k) (r j) (omega arith), eq-eqb (r j) (r k) h)
-
-  pub less_not_before : r j < r k → comes_before r j k ≡ false
-  unfolding comes_before
-  less_not_before h = rw (le-ltb (r k) (r j) (omega arith), ne_eqb (r j) (r k) (λ e. omega arith))
-
-  -- the two ways to come before
-  pub before_cases : {A : Type 0} → comes_before r j k ≡ true → (r k < r j → A) → (r j ≡ r k → j < k → A) → A
-  before_cases t f g =
-      by_order (r k) (r j) f λ le.
-      by_order (r j) (r k)
-      (λ lt. true_not_false (comes_before r j k) t (less_not_before lt))
-      (λ ge. let e : r j ≡ r k = omega arith in g e (ltb-true j k (sym (equal_before e) ∙ t)))
-
   -- an earlier position comes before where its remainder is not less
   pub earlier_before : j < k → r k ≤ r j → comes_before r j k ≡ true
-  earlier_before lt le =
-      by_order (r k) (r j) greater_before (λ ge. equal_before (omega arith) ∙ lt-ltb j k lt)
+  unfolding comes_before
+  earlier_before lt le = grind (arith, nat_tests)
 
   -- a later one only where its remainder is greater
   pub later_not_before : k ≤ j → r j ≤ r k → comes_before r j k ≡ false
-  later_not_before lt le =
-      by_order (r j) (r k) less_not_before (λ ge. equal_before (omega arith) ∙ le-ltb j k lt)
+  unfolding comes_before
+  later_not_before lt le = grind (arith, nat_tests)
 
 pub before_trans : (r : ℕ → ℕ) (i j k : ℕ) → comes_before r i j ≡ true → comes_before r j k ≡ true → comes_before r i k ≡ true
-before_trans r i j k s t =
-    before_cases r i j s
-    (λ a. before_cases r j k t (λ b. greater_before r i k (omega arith)) (λ b lt. greater_before r i k (omega arith)))
-    (λ a lt. before_cases r j k t (λ b. greater_before r i k (omega arith)) (λ b lt'. equal_before r i k (omega arith) ∙ lt-ltb i k (omega arith)))
+unfolding comes_before
+before_trans r i j k s t = grind (arith, nat_tests)
 
 -- Properties of rank
 

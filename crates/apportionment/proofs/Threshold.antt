@@ -3,11 +3,12 @@ use Prim.Native.Nat.{ℕ, ◌+◌, ◌≤◌, ◌<◌}
 use native.Mathlib.Omega.{arith}
 use native.Mathlib.Numerals.{add-one}
 use mathlib.Core.Path.{◌≡◌, refl, sym, ap, ◌∙◌}
-use mathlib.Core.Bool.{Bool, true, false, cond}
+use mathlib.Core.Bool.{Bool, cond}
 use mathlib.Core.List.{List, [], ◌∷◌}
 use lib.Dec.{ltb, leb, eqb}
 use lib.ListN.{length, set}
-use borrow.Author.Tests.{ltb-true, lt-ltb, le-ltb, leb-true, le-leb, eq-eqb, ne_eqb}
+use Rattle.std.proofs.lemmas.Bool.Decides.{nat_tests}
+use borrow.Author.Tests.{ltb-true, lt-ltb, le-ltb, le-leb, eq-eqb, ne_eqb}
 use Rattle.std.specs.Int.{from_bool}
 use Rattle.std.specs.List.{count_by}
 use Rattle.std.specs.Prelude.{Option, None, Some, MatchOption, EachIndex}
@@ -20,7 +21,6 @@ use Rattle.general_laws.proofs.Lists.{list_at, list_of, list_set}
 use Rattle.general_laws.proofs.Sums.{sum-none, sum_first, sum_same, sum-add, sum-cut}
 use Rattle.apportionment.specs.Apportionment.{comes_before, rank}
 use Rattle.apportionment.specs.Steps.{at, above, not_below, equals, Threshold, with_extra}
-use Rattle.apportionment.proofs.Ranks.{greater_before, equal_before, less_not_before, later_not_before, before_cases}
 
 -- those of a list that pass a test, counted by their places
 pub counted : (test : ℕ → Bool) (xs : List ℕ) → count_by test xs ≡ count_below (length xs) (λ j. test (at xs j))
@@ -55,9 +55,9 @@ above-within rs b =
 
 -- Properties of equals
 
-pub equals-none : (rs : List ℕ) (b : ℕ) → equals rs 0 b ≡ 0
+pub equals_none : (rs : List ℕ) (b : ℕ) → equals rs 0 b ≡ 0
 unfolding equals count_below sum_below
-equals-none rs b = refl
+equals_none rs b = refl
 
 pub equals_counts : (rs : List ℕ) (i b : ℕ) → at rs i ≡ b → equals rs (i + 1) b ≡ equals rs i b + 1
 unfolding equals
@@ -69,62 +69,44 @@ equals-skips rs i b h = rw (add-one i) (count-suc i (λ j. eqb (at rs j) b) ∙ 
 
 -- The threshold and the ranks
 
-neither : (x : ℕ) (t : Bool) → x ≡ x + cond t 0 0
-neither x true = omega arith
-neither x false = omega arith
-
 module _ (rs : List ℕ) (l b k : ℕ) (within : k < length rs) where
   above_gets : above rs b ≤ l → b < at rs k → rank (at rs) (length rs) k < l
-  unfolding rank
+  unfolding rank comes_before
   above_gets upper h =
-      let e = count_lt (length rs) (λ j. comes_before (at rs) j k) (λ j. ltb b (at rs j)) k within
-      (λ j _ t. before_cases (at rs) j k t (λ g. lt-ltb b (at rs j) (omega arith)) (λ q _. lt-ltb b (at rs j) (omega arith)))
-      (later_not_before (at rs) k k (omega arith) (omega arith)) (lt-ltb b (at rs k) h) in
+      let e = count_lt (length rs) (λ j. comes_before (at rs) j k) (λ j. ltb b (at rs j)) k within (λ j _ t. grind (arith, nat_tests)) (grind (arith, nat_tests)) (lt-ltb b (at rs k) h) in
       omega (arith, counted (λ r. ltb b r) rs)
 
   below_gets_not : l ≤ not_below rs b → at rs k < b → l ≤ rank (at rs) (length rs) k
-  unfolding rank
+  unfolding rank comes_before
   below_gets_not lower h =
-      let e = count_le (length rs) (λ j. leb b (at rs j)) (λ j. comes_before (at rs) j k)
-      (λ j _ t. let g = leb-true b (at rs j) t in greater_before (at rs) j k (omega arith)) in
+      let e = count_le (length rs) (λ j. leb b (at rs j)) (λ j. comes_before (at rs) j k) (λ j _ t. grind (arith, nat_tests)) in
       omega (arith, counted (λ r. leb b r) rs)
 
   -- those at the threshold come after those above it, in order
   equal_rank : at rs k ≡ b → rank (at rs) (length rs) k ≡ above rs b + equals rs k b
-  unfolding rank equals count_below
+  unfolding rank equals count_below comes_before
   equal_rank h =
-      sum_same (length rs) (λ j. cond (comes_before (at rs) j k) 1 0) (λ j. cond (ltb b (at rs j)) 1 0 + cond (ltb j k) (cond (eqb (at rs j) b) 1 0) 0) (λ j _. each j)
+      sum_same (length rs) (λ j. cond (comes_before (at rs) j k) 1 0) (λ j. cond (ltb b (at rs j)) 1 0 + cond (ltb j k) (cond (eqb (at rs j) b) 1 0) 0) (λ j _. grind (arith, nat_tests))
       ∙ sum-add (length rs) (λ j. cond (ltb b (at rs j)) 1 0) (λ j. cond (ltb j k) (cond (eqb (at rs j) b) 1 0) 0)
       ∙ omega (arith, counted (λ r. ltb b r) rs, sum-cut (length rs) k (λ j. cond (eqb (at rs j) b) 1 0) (omega arith))
-    where
-      each : (j : ℕ) → ◌≡◌ {A = ℕ} (cond (comes_before (at rs) j k) 1 0) (cond (ltb b (at rs j)) 1 0 + cond (ltb j k) (cond (eqb (at rs j) b) 1 0) 0)
-      each j =
-          by_order b (at rs j)
-          (λ gt. rw (greater_before (at rs) j k (omega arith), lt-ltb b (at rs j) gt, ne_eqb (at rs j) b (λ e. omega arith)) (neither 1 (ltb j k)))
-          (λ le. by_order (at rs j) b
-          (λ lt. rw (less_not_before (at rs) j k (omega arith), le-ltb b (at rs j) le, ne_eqb (at rs j) b (λ e. omega arith)) (neither 0 (ltb j k)))
-          (λ ge. rw (equal_before (at rs) j k (omega arith), le-ltb b (at rs j) le, eq-eqb (at rs j) b (omega arith)) (omega arith)))
-
-pub unit_most : (t : Bool) → from_bool t ≤ 1
-unit_most true = omega arith
-unit_most false = omega arith
 
 -- The units handed out: the places below i have theirs
 
-pub extra-none : (ps rs : List ℕ) (l : ℕ) → length ps ≡ 64 → ps ≡ list_below 64 (with_extra ps rs l 0)
+pub extra_none : (ps rs : List ℕ) (l : ℕ) → length ps ≡ 64 → ps ≡ list_below 64 (with_extra ps rs l 0)
 unfolding with_extra
-extra-none ps rs l e = list_of 64 (with_extra ps rs l 0) ps e (λ k _. rw (le-ltb k 0 (omega arith)) (omega arith))
+extra_none ps rs l e = list_of 64 (with_extra ps rs l 0) ps e (λ k _. rw (le-ltb k 0 (omega arith)) (omega arith))
+
+-- and place i has what it had
+pub extra_at : (ps rs : List ℕ) (l i : ℕ) → i < 64 → at (list_below 64 (with_extra ps rs l i)) i ≡ at ps i
+unfolding with_extra
+extra_at ps rs l i lt = list_at 64 (with_extra ps rs l i) i lt ∙ rw (le-ltb i i (omega arith)) (omega arith)
 
 module _ (ps rs now : List ℕ) (l b i : ℕ) (t : Threshold rs l b) (below : i < length rs) (places : length rs ≤ 64)
     (so_far : now ≡ list_below 64 (with_extra ps rs l i)) where
-  pub extra_at : at now i ≡ at ps i
-  unfolding with_extra
-  extra_at = rw so_far (list_at 64 (with_extra ps rs l i) i (omega arith) ∙ rw (le-ltb i i (omega arith)) (omega arith))
-
   one_more : (x : ℕ) → x ≡ cond (ltb (rank (at rs) (length rs) i) l) 1 0 → set now i (at now i + x) ≡ list_below 64 (with_extra ps rs l (i + 1))
   unfolding with_extra
   one_more x is =
-      rw (extra_at, so_far)
+      rw (so_far, extra_at ps rs l i (omega arith))
       (list_set 64 (with_extra ps rs l i) (with_extra ps rs l (i + 1)) i _ (omega arith)
       (rw (lt-ltb i (i + 1) (omega arith)) (omega arith))
       (λ k _ other. rw (ltb_same k i k (i + 1) (λ h. omega arith) (λ h. omega arith))))

@@ -21,9 +21,9 @@ use Rattle.apportionment.proofs.Arrays.{padded-length, padded-at, padded-behind,
 use Rattle.apportionment.proofs.Laws.{quotients-within, leftover-few}
 
 -- what all quotients leave
-pub leftover_is : (m : ℕ) (ws : List ℕ) (l i : ℕ) → i ≡ length ws → l + sum_below i (quotient m ws) ≡ m → l ≡ leftover m ws
+pub leftover_is : (m : ℕ) (ws : List ℕ) (l : ℕ) → l + sum_below (length ws) (quotient m ws) ≡ m → l ≡ leftover m ws
 unfolding leftover
-leftover_is m ws l i end e = let s = ap (λ (k : ℕ). sum_below k (quotient m ws)) end in omega arith
+leftover_is m ws l e = omega arith
 
 module _ (m : ℕ) (ws : List ℕ) (t : ℕ) (whole : Whole m ws t) where
   some : 0 < total_weight ws

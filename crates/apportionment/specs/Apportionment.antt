@@ -1,7 +1,7 @@
 -- An amount divided by weights: the largest remainder method. Document 01, Settle: "Each receives M × w divided by W, rounded down; the
 -- cents left over go one each to the greatest remainders, earlier position first among equals." The positions are those of the list ws.
-use Rattle.std.specs.Prelude.{ℕ, ◌+◌, ◌-◌, ◌*◌, ◌/◌, ◌%◌, Bool, cond, ◌&&◌, ◌||◌, List, Result, Ok, Err, ltb, eqb, length, get_or}
-use Rattle.general_laws.specs.Sums.{total, sum_below, count_below, list_below}
+use Rattle.std.specs.Prelude.{ℕ, ◌+◌, ◌-◌, ◌*◌, ◌/◌, ◌%◌, Bool, cond, ◌&&◌, ◌||◌, List, Result, Ok, Err, ltb, eqb, length, get_or, sum}
+use Rattle.general_laws.specs.Sums.{sum_below, count_below, list_below}
 use Rattle.apportionment.specs.declared.Undivided.{Undivided}
 use Rattle.apportionment.specs.declared.Undivided.TheVariants.{Count, Amount, Weight}
 
@@ -11,7 +11,7 @@ weight ws k = get_or ws k 0
 
 -- W: the total of the weights
 unfoldable pub total_weight : List ℕ → ℕ
-total_weight ws = total ws
+total_weight ws = sum ws
 
 -- M × w divided by W, rounded down
 unfoldable pub quotient : ℕ → List ℕ → ℕ → ℕ

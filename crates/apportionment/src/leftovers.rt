@@ -5,7 +5,8 @@ ghost use Rattle.apportionment.specs.Steps.{above, Threshold, with_extra};
 
 use crate::POSITIONS;
 
-// How many of the remainders are greater than a number: a sum of ones, as the count of a filter takes 1.7 times as many instructions.
+// How many of the remainders are greater than a number: a sum of ones, as the count of a filter takes 1.7 times as many instructions; and in 32 bits,
+// which hold it by the bound, as with 64 bits a division among 64 takes 1.3 times the instructions.
 pub fn count_above(remainders: &[u32], bound: u32) -> u32
     requires { length remainders.now ≤ 64 }
     ensures { result ≡ above remainders.now bound }
@@ -40,13 +41,15 @@ pub fn threshold(remainders: &[u32], leftover: u32) -> u32
 }
 
 // The leftover units, one each to the remainders above the threshold and to the earliest at it.
+#[tactic(auto, using(crate::proofs::Threshold::extra_none, crate::proofs::Threshold::equals_none, crate::proofs::Threshold::extra_at))]
 pub fn hand_out(parts: &mut [u64; POSITIONS], remainders: &[u32], leftover: u32)
-    requires places { (0 < leftover) × (leftover ≤ length remainders.now) × (length remainders.now ≤ 64) × (length parts.old ≡ 64) }
+    requires places { (0 < leftover) × (leftover ≤ length remainders.now) × (length remainders.now ≤ 64) }
     requires parts_small { (k : ℕ) → get_or parts.old k 0 ≤ 100000000000 }
     ensures { parts.new ≡ list_below 64 (with_extra parts.old remainders.now leftover (length remainders.now)) }
 {
     let bound = threshold(remainders, leftover);
     let mut spare = leftover - count_above(remainders, bound);
+    // By index: no proof was found of what zip over iter_mut leaves.
     for (i, &remainder) in remainders.iter().enumerate() {
         if remainder == bound && 0 < spare {
             parts[i] += 1;

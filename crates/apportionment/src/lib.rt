@@ -34,14 +34,14 @@ pub enum Undivided {
 pub fn apportion(amount: u64, weights: &[u64]) -> Result<[u64; POSITIONS], Undivided>
     ensures { result ≡ apportioned amount weights.now }
 {
-    if weights.is_empty() || POSITIONS < weights.len() {
+    if !(1..=POSITIONS).contains(&weights.len()) {
         return Err(Undivided::Count);
     }
     if AMOUNT < amount {
         return Err(Undivided::Amount);
     }
     let total = total_weight(weights);
-    if total == 0 || WEIGHT < total {
+    if !(1..=WEIGHT).contains(&total) {
         return Err(Undivided::Weight);
     }
     Ok(divided(amount, weights, total))

@@ -11,21 +11,16 @@ const INPUT: usize = 65536;
 // The most weights that a case passes: more than are divided among.
 const WEIGHTS: usize = 70;
 
-// The numbers of a division's answers are this program's own, so `Undivided` has none.
+// The numbers of a division's answers are this program's own: 0 for the parts, and the reasons in their order from 1.
 fn number(answer: Result<[u64; POSITIONS], Undivided>) -> u8 {
-    match answer {
-        Ok(_) => 0,
-        Err(Undivided::Count) => 1,
-        Err(Undivided::Amount) => 2,
-        Err(Undivided::Weight) => 3,
-    }
+    answer.err().map_or(0, |reason| reason as u8 + 1)
 }
 
 // The line of the next case: its amount, how many weights are passed, and how many are stated, which come next. The others are 0.
 fn put_case(rt: &impl Print, cases: &mut Cases) {
     let amount = cases.number();
-    let passed = WEIGHTS.min(cases.number() as usize);
-    let stated = POSITIONS.min(cases.number() as usize);
+    let passed = cases.count(WEIGHTS);
+    let stated = cases.count(POSITIONS);
     let mut weights = [0u64; WEIGHTS];
     for weight in &mut weights[..stated] {
         *weight = cases.number();

@@ -1,21 +1,15 @@
 -- Positions that gain their unit-days one by one, and the sum of those they have.
-use Rattle.std.proofs.Common.{arith, ℕ, ◌≡◌, ◌+◌, ◌*◌, ◌≤◌, ◌<◌, List, map, refl, sym, ap, ◌∙◌, length, get_or, set, append-nil}
+use Rattle.std.proofs.Common.{arith, ℕ, ◌≡◌, ◌+◌, ◌*◌, ◌≤◌, ◌<◌, List, map, refl, sym, ap, ◌∙◌, length, get_or, set}
 use native.Mathlib.Nat.{mul-le-mul_right}
 use lib.ListN.{length-map}
-use Rattle.std.proofs.lemmas.List.{drop_all}
-use Rattle.std.specs.List.{sum_by}
-use Rattle.std.proofs.lemmas.List.Recursion.{is_sum_by}
-use Rattle.general_laws.specs.Sums.{total}
-use Rattle.general_laws.proofs.Fronts.{filled, filled_at, filled_step, filled-all}
+use Rattle.std.proofs.lemmas.List.{get_or-map}
+use Rattle.std.specs.List.{sum}
+use Rattle.general_laws.proofs.Fronts.{filled, filled_at, filled_step}
 use Rattle.general_laws.proofs.Totals.{total_most_of}
 use Rattle.book_model.specs.declared.Position.{Position}
 use Rattle.book_model.specs.Book.{fresh}
 use Rattle.book_model.specs.Closed.{days_held}
 use Rattle.book_model.specs.Positions.{shares, unit_days_column}
-use Rattle.book_model.proofs.Callers.{days_held-at}
-
-pub unit_days_sum : (ps : List Position) → total (unit_days_column ps) ≡ sum_by (λ (p : Position). p.unit_days) ps
-unit_days_sum = is_sum_by (λ (ps : List Position). total (unit_days_column ps)) (λ (p : Position). p.unit_days) refl (λ p ps. refl)
 
 -- the positions of an array after so many days, up to a place
 abbrev pub held_up_to : ℕ → List Position → ℕ → List Position
@@ -38,7 +32,7 @@ module _ (days : ℕ) (ps next : List Position) (i : ℕ) (so_far : next ≡ hel
         ap (λ (l : List Position). get_or l i (fresh 0 0)) so_far
         ∙ filled_at later ps i (fresh 0 0) lt (omega (arith, as_many))
 
-    pub gain_most : total (unit_days_column ps) ≤ 92000000 → total (shares ps) ≤ 1000000 → days ≤ 92
+    pub gain_most : sum (unit_days_column ps) ≤ 92000000 → sum (shares ps) ≤ 1000000 → days ≤ 92
         → ((get_or next i (fresh 0 0)).share.0 ≤ 1000000) × ((get_or next i (fresh 0 0)).unit_days + (get_or next i (fresh 0 0)).share.0 * days ≤ 184000000)
     gain_most unit_days_most shares_most days_most =
         let share = total_most_of (λ (p : Position). p.share.0) ps i (fresh 0 0) refl in
@@ -49,7 +43,4 @@ module _ (days : ℕ) (ps next : List Position) (i : ℕ) (so_far : next ≡ hel
     gained =
         ap (λ (l : List Position). set l i (days_held days (get_or next i (fresh 0 0)))) so_far
         ∙ filled_step later ps i (fresh 0 0) lt (days_held days (get_or next i (fresh 0 0))) (omega (arith, as_many))
-        (ap (days_held days) here ∙ sym (days_held-at days ps i (fresh 0 0) lt))
-
-  pub all-gained : i ≡ length ps → next ≡ later
-  all-gained e = so_far ∙ filled-all later ps i (e ∙ sym as_many) ∙ rw (drop_all (length later) ps (omega (arith, as_many)), append-nil)
+        (ap (days_held days) here ∙ sym (get_or-map (days_held days) ps i (fresh 0 0) (fresh 0 0) lt))

@@ -1,10 +1,8 @@
 -- The cases of Advance in an open book, and the book after its days, which pass at once.
-use Rattle.std.proofs.Common.{arith, ℕ, ◌≡◌, ◌+◌, ◌-◌, ◌*◌, ◌≤◌, ◌<◌, List, ◌++◌, map, sym, ap, ◌∙◌, true, length, get_or, drop}
-use mathlib.Core.Bool.{or-true}
-use borrow.Author.Tests.{lt-ltb, le-ltb, le-leb, lt-leb}
+use Rattle.std.proofs.Common.{arith, rules, ℕ, ◌≡◌, ◌+◌, ◌-◌, ◌*◌, ◌≤◌, ◌<◌, List, ◌++◌, map, sym, ap, ◌∙◌, true, length, get_or, drop}
 use lib.ListN.{length-map}
 use Rattle.std.specs.Prelude.{Ok}
-use Rattle.general_laws.specs.Sums.{total}
+use Rattle.std.specs.List.{sum}
 use Rattle.calendar.proofs.Callers.{Counted, count-date, laws}
 use Rattle.calendar.specs.Answers.{count_of}
 use Rattle.calendar.specs.Calendar.{day_count}
@@ -16,12 +14,11 @@ use Rattle.account.specs.Walk.{elapsed}
 use Rattle.account.proofs.Callers.{accrues, fits, last_within}
 use Rattle.book_model.specs.declared.Book.{Book}
 use Rattle.book_model.specs.declared.Position.{Position}
-use Rattle.book_model.specs.declared.Refusal.TheVariants as refusal
 use Rattle.book_model.specs.Advance.{last_settled, days_passed, advanced, advanced_to}
 use Rattle.book_model.specs.Book.{held, rates_of, settlements_of, with_held, with_account, with_today}
 use Rattle.book_model.specs.Closed.{days_held}
 use Rattle.book_model.specs.Invariant.{Sound, OpenSound}
-use Rattle.book_model.specs.Outcome.{no_days, refuse, accept}
+use Rattle.book_model.specs.Outcome.{accept}
 use Rattle.book_model.specs.Positions.{unit_days_column}
 use Rattle.book_model.specs.Schedule.{daily_on}
 use Rattle.book_model.proofs.Callers.{Roomy, length-held, days_at_once, with_array, last_elapses, last-order, priced-at}
@@ -39,48 +36,17 @@ module _ {b : Book} (sound : Sound b) (is_open : b.opened ≡ true) where
   -- The cases, by the first day's count and the date's
 
   module _ (date count first : ℕ) (told : Counted date count) (e : first ≡ day_count b.first) where
-    pub not_after_today : count ≤ first + b.today.0 → refuse no_days b refusal.Day ≡ advanced b date
-    unfolding advanced advanced_to
-    not_after_today le = rw (is_open, told.is-date, ← told.is-count, ← e, le-leb count (first + b.today.0) le)
-
-    pub after-term : first + b.term.0 < count → refuse no_days b refusal.Day ≡ advanced b date
-    unfolding advanced advanced_to
-    after-term lt = rw (is_open, told.is-date, ← told.is-count, ← e, lt-ltb (first + b.term.0) count lt, or-true)
-
     module _ (after : first + b.today.0 < count) (within : count ≤ first + b.term.0) where
       abbrev days : ℕ
       days = count - (first + b.today.0)
 
       -- the days since the last settlement follow from the unit-days
-      pub pending : 92000000 < total (unit_days_column (held b)) + 1000000 * days → refuse no_days b refusal.SettlementPending ≡ advanced b date
-      unfolding advanced advanced_to
-      pending far =
-          let last = last_within 0 (settlements_of b) b.today.0 known.timely in
-          let beyond : first + (last_settled b + 92) < count = omega (arith, known.days-held) in
-          rw (
-            is_open,
-            told.is-date,
-            ← told.is-count,
-            ← e,
-            lt-leb count (first + b.today.0) after,
-            le-ltb (first + b.term.0) count within,
-            lt-ltb (first + (last_settled b + 92)) count beyond,
-          )
-
-      pub passes : total (unit_days_column (held b)) + 1000000 * days ≤ 92000000 → accept (record { 0 = days }) (days_passed days b) ≡ advanced b date
+      pub passes : sum (unit_days_column (held b)) + 1000000 * days ≤ 92000000 → accept (record { 0 = days }) (days_passed days b) ≡ advanced b date
       unfolding advanced advanced_to
       passes near =
           let last = last_within 0 (settlements_of b) b.today.0 known.timely in
           let soon : count ≤ first + (last_settled b + 92) = omega (arith, known.days-held) in
-          rw (
-            is_open,
-            told.is-date,
-            ← told.is-count,
-            ← e,
-            lt-leb count (first + b.today.0) after,
-            le-ltb (first + b.term.0) count within,
-            le-ltb (first + (last_settled b + 92)) count soon,
-          )
+          search rules
 
   -- The account
 

@@ -1,8 +1,7 @@
 // Advance (document 01): days pass, positions gain unit-days and interest accrues.
 #![tactic(auto)]
 
-ghost use Rattle.std.specs.Prelude.{◌≡◌, map, ◌+◌, ◌*◌, ◌≤◌, length};
-ghost use Rattle.general_laws.specs.Sums.{total};
+ghost use Rattle.std.specs.Prelude.{◌≡◌, map, ◌+◌, ◌*◌, ◌≤◌, length, sum};
 ghost use Rattle.book_model.specs.Advance.{advanced};
 ghost use Rattle.book_model.specs.Called.{stated};
 ghost use Rattle.book_model.specs.Closed.{days_held};
@@ -13,18 +12,19 @@ ghost use Rattle.book_model.specs.Positions.{shares, unit_days_column};
 use book_model::{Book, Called, Day, Position, ReachedBook, Refusal, count_of};
 
 // The unit-days of all positions together: 1,000,000 for each day since the last settlement.
-#[tactic(auto, using(crate::proofs::Held::unit_days_sum))]
 fn unit_days_of(held: &[Position]) -> u64
     requires { length held.now ≤ 64 }
-    ensures { result ≡ total (unit_days_column held.now) }
+    ensures { result ≡ sum (unit_days_column held.now) }
 {
-    held.iter().map(|position| position.unit_days as u64).sum()
+    held.iter()
+        .map(|position| u64::from(position.unit_days))
+        .sum()
 }
 
 // Every position gains its share in unit-days, for so many days.
 fn hold(held: &mut [Position], days: Day)
-    requires unit_days_most { total (unit_days_column held.old) ≤ 92000000 }
-    requires shares_most { total (shares held.old) ≤ 1000000 }
+    requires unit_days_most { sum (unit_days_column held.old) ≤ 92000000 }
+    requires shares_most { sum (shares held.old) ≤ 1000000 }
     requires days_most { days.0 ≤ 92 }
     ensures { held.new ≡ map (days_held days.0) held.old }
 {
@@ -33,8 +33,9 @@ fn hold(held: &mut [Position], days: Day)
     }
 }
 
-// The book that comes in is changed in place; a refusal leaves it as it was. It asks for a sound book, as no type says so while the parts change.
-#[tactic(auto, unfolding(book_model::specs::Advance::advanced))]
+// The book that comes in is changed in place; a refusal leaves it as it was. It asks for a sound book, and is no call on a reached one itself: there
+// the proof that the book is reached would stand at each way out.
+#[tactic(auto, using(calendar::proofs::Callers::no_date_tells), unfolding(book_model::specs::Advance::advanced))]
 fn advance_in(book: &mut Book, date: u32) -> Result<Day, Refusal>
     requires { Sound book.old }
     ensures { outcome no_days result book.new ≡ advanced book.old date }
@@ -50,8 +51,8 @@ fn advance_in(book: &mut Book, date: u32) -> Result<Day, Refusal>
     }
     let days = Day(count - today);
     let unit_days = unit_days_of(&book.positions[..book.count]);
-    let most = Book::PARTS * (Book::SETTLEMENT_DAYS as u64);
-    if most < unit_days + Book::PARTS * (days.0 as u64) {
+    let most = Book::PARTS * u64::from(Book::SETTLEMENT_DAYS);
+    if most < unit_days + Book::PARTS * u64::from(days.0) {
         return Err(Refusal::SettlementPending);
     }
     hold(&mut book.positions[..book.count], days);
@@ -69,14 +70,9 @@ pub fn advance_in_place(book: &mut ReachedBook, date: u32) -> Result<Day, Refusa
     advance_in(&mut book.book, date)
 }
 
-// By value, the form of every call: written out in each, as one for all would have a closure's contract for its own.
+// By value, the form of every call.
 pub fn advance(book: ReachedBook, date: u32) -> Called<Day>
     ensures { stated no_days result ≡ advanced book.book date }
 {
-    let mut after = book;
-    let answer = advance_in_place(&mut after, date);
-    Called {
-        answer,
-        book: after,
-    }
+    book.call(|book| advance_in_place(book, date))
 }

@@ -7,7 +7,8 @@ use mathlib.Core.List.{List}
 use borrow.Author.Tests.{eqb-false, leb-true, leb-false, ltb-false, not-true, not-false}
 use lib.Dec.{eqb, leb, ltb}
 use lib.ListN.{length}
-use Rattle.general_laws.proofs.Choice.{choice, both_true, neither_true}
+use Rattle.std.proofs.lemmas.Bool.{and_parts, or_parts}
+use Rattle.general_laws.proofs.Choice.{choice}
 use Rattle.calendar.specs.Calendar.{is_date, day_count}
 use Rattle.account.specs.declared.Account.{Account}
 use Rattle.book_model.specs.declared.Book.{Book}
@@ -34,21 +35,24 @@ use Rattle.account.specs.Standing.{account_at, overpaid}
 use Rattle.book_model.specs.Transfer.{moved, transferred}
 use Rattle.book_model.proofs.Financing.{Financed, financed}
 
+pub refusal_within : (r : Refusal) → (1 ≤ refusal_number r) × (refusal_number r ≤ 14)
+refusal_within refusal.Unopened = omega arith
+refusal_within refusal.AlreadyOpen = omega arith
+refusal_within refusal.Date = omega arith
+refusal_within refusal.Term = omega arith
+refusal_within refusal.Amount = omega arith
+refusal_within refusal.Rate = omega arith
+refusal_within refusal.Financing = omega arith
+refusal_within refusal.Day = omega arith
+refusal_within refusal.SettlementPending = omega arith
+refusal_within refusal.Holder = omega arith
+refusal_within refusal.Share = omega arith
+refusal_within refusal.BookFull = omega arith
+refusal_within refusal.NoDayHeld = omega arith
+refusal_within refusal.Overpaid = omega arith
+
 pub no_refusal_is_0 : (r : Refusal) → refusal_number r ≡ 0 → ⊥
-no_refusal_is_0 refusal.Unopened e = omega arith
-no_refusal_is_0 refusal.AlreadyOpen e = omega arith
-no_refusal_is_0 refusal.Date e = omega arith
-no_refusal_is_0 refusal.Term e = omega arith
-no_refusal_is_0 refusal.Amount e = omega arith
-no_refusal_is_0 refusal.Rate e = omega arith
-no_refusal_is_0 refusal.Financing e = omega arith
-no_refusal_is_0 refusal.Day e = omega arith
-no_refusal_is_0 refusal.SettlementPending e = omega arith
-no_refusal_is_0 refusal.Holder e = omega arith
-no_refusal_is_0 refusal.Share e = omega arith
-no_refusal_is_0 refusal.BookFull e = omega arith
-no_refusal_is_0 refusal.NoDayHeld e = omega arith
-no_refusal_is_0 refusal.Overpaid e = omega arith
+no_refusal_is_0 r e = omega (arith, refusal_within r)
 
 -- Open
 
@@ -75,9 +79,9 @@ module _ (b : Book) (first : ℕ) (term : Day) (annual : ℕ) (cents : Cents) (h
       choice P (not (is_recognised cents.0)) (λ _. refused refusal.Amount) λ c.
       choice P (ltb 4000 annual) (λ _. refused refusal.Rate) λ r.
       choice P (not (is_financing hs ss)) (λ _. refused refusal.Financing) λ f.
-      let some-term = both_true (leb 1 term.0) (leb term.0 6000 && leb first 20991231) (not-false _ t) in
-      let most-term = both_true (leb term.0 6000) (leb first 20991231) some-term.1 in
-      let amount = both_true (not (eqb cents.0 0)) (leb cents.0 1000000000000) (not-false _ c) in
+      let some-term = and_parts (leb 1 term.0) (leb term.0 6000 && leb first 20991231) (not-false _ t) in
+      let most-term = and_parts (leb term.0 6000) (leb first 20991231) some-term.1 in
+      let amount = and_parts (not (eqb cents.0 0)) (leb cents.0 1000000000000) (not-false _ c) in
       accepted
       record {
         is-empty = o;
@@ -113,7 +117,7 @@ module _ (b : Book) (date : ℕ) (P : Outcome Day → Type 0) where
       choice P (not (is_date date)) (λ _. refused refusal.Date) λ d.
       choice P (leb (day_count date) (count_of_day b b.today.0) || ltb (count_of_day b b.term.0) (day_count date)) (λ _. refused refusal.Day) λ t.
       choice P (ltb (count_of_day b (last_settled b + 92)) (day_count date)) (λ _. refused refusal.SettlementPending) λ s.
-      let day = neither_true (leb (day_count date) (count_of_day b b.today.0)) (ltb (count_of_day b b.term.0) (day_count date)) t in
+      let day = or_parts (leb (day_count date) (count_of_day b b.today.0)) (ltb (count_of_day b b.term.0) (day_count date)) t in
       accepted
       record {
         is_open = not-false _ o;
@@ -162,7 +166,7 @@ module _ (b : Book) (date annual : ℕ) (P : Outcome Revised → Type 0) where
       choice P (ltb (day_count date) (count_of_day b 0) || ltb (count_of_day b b.today.0) (day_count date)) (λ _. refused refusal.Day) λ t.
       choice P (leb 16 (length (starting_before o.first.0 (rates_of b)))) (λ _. refused refusal.BookFull) λ f.
       choice P (overpaid b.recognised.0 (daily_on (rates_after b o)) (settlements_of b)) (λ _. refused refusal.Overpaid) λ w.
-      let day = neither_true (ltb (day_count date) (count_of_day b 0)) (ltb (count_of_day b b.today.0) (day_count date)) t in
+      let day = or_parts (ltb (day_count date) (count_of_day b 0)) (ltb (count_of_day b b.today.0) (day_count date)) t in
       accepted
       record {
         is_open = not-false _ n;
@@ -197,10 +201,10 @@ module _ (b : Book) (c a : ℕ) (n : Parts) (P : Outcome Parts → Type 0) where
       choice P (not (is_holder c) || (not (is_holder a) || (not (present c (held b)) || eqb c a))) (λ _. refused refusal.Holder) λ h.
       choice P (eqb n.0 0 || ltb (share_of c (held b)) n.0) (λ _. refused refusal.Share) λ s.
       choice P (not (present a (held b)) && leb 64 b.count) (λ _. refused refusal.BookFull) λ f.
-      let cedent = neither_true (not (is_holder c)) (not (is_holder a) || (not (present c (held b)) || eqb c a)) h in
-      let assignee = neither_true (not (is_holder a)) (not (present c (held b)) || eqb c a) cedent.1 in
-      let known = neither_true (not (present c (held b))) (eqb c a) assignee.1 in
-      let share = neither_true (eqb n.0 0) (ltb (share_of c (held b)) n.0) s in
+      let cedent = or_parts (not (is_holder c)) (not (is_holder a) || (not (present c (held b)) || eqb c a)) h in
+      let assignee = or_parts (not (is_holder a)) (not (present c (held b)) || eqb c a) cedent.1 in
+      let known = or_parts (not (present c (held b))) (eqb c a) assignee.1 in
+      let share = or_parts (eqb n.0 0) (ltb (share_of c (held b)) n.0) s in
       accepted
       record {
         is_open = not-false _ o;

@@ -5,7 +5,6 @@ use mathlib.Core.Path.{◌≡◌, ◌∙◌}
 use mathlib.Core.Bool.{true}
 use mathlib.Core.List.{map}
 use lib.ListN.{length, length-append, length-drop, length-map}
-use Rattle.general_laws.proofs.Choice.{true_not_false}
 use Rattle.book_model.specs.declared.Book.{Book}
 use Rattle.book_model.specs.Advance.{last_settled, days_passed, advanced}
 use Rattle.book_model.specs.Book.{held, rates_of, settlements_of, with_held, with_account, with_today}
@@ -76,7 +75,7 @@ module _ (b : Book) (h : Sound b) (is_open : b.opened ≡ true) (n : ℕ) (term 
         room-positions = rw (length-append, length-drop) (omega (arith, count-later, room, h.room-positions));
         room-settlements = h.room-settlements;
         room-rates = h.room-rates;
-        empty-before = λ shut. true_not_false b.opened is_open shut;
+        empty-before = λ shut. cc;
         when_open = λ _. open_later;
       }
 

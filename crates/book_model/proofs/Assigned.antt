@@ -7,11 +7,13 @@ use mathlib.Core.List.{List, [], ◌∷◌, ◌++◌, map, map-append}
 use borrow.Author.Tests.{ltb-true, ltb-false, le-ltb}
 use lib.Dec.{eqb, ltb}
 use lib.ListN.{length, length-append}
-use Rattle.general_laws.specs.Members.{all, distinct, among}
-use Rattle.general_laws.specs.Sums.{total}
+use Rattle.std.specs.List.{list_all, sum}
+use Rattle.std.proofs.lemmas.List.Folds.{list_all-append}
+use Rattle.std.proofs.lemmas.List.Sums.{sum_by_push}
+use Rattle.general_laws.specs.Members.{distinct, among}
 use Rattle.general_laws.proofs.Choice.{by-test, choice}
-use Rattle.general_laws.proofs.Members.{all-last, distinct-last}
-use Rattle.general_laws.proofs.Totals.{total-last}
+use Rattle.general_laws.proofs.Members.{distinct-last}
+use Rattle.general_laws.proofs.Totals.{sum-cons}
 use Rattle.book_model.specs.declared.Position.{Position}
 use Rattle.book_model.specs.Book.{fresh}
 use Rattle.book_model.specs.Positions.{is_holder, place, present, share_of, change, less, more, given, shares, unit_days_column, receipts, holders}
@@ -22,42 +24,42 @@ assigned c a n ps = given a n (change c (less n) ps)
 
 -- Shares
 
-pub shares_less : (c n : ℕ) (ps : List Position) → n ≤ share_of c ps → total (shares (change c (less n) ps)) + n ≡ total (shares ps)
+pub shares_less : (c n : ℕ) (ps : List Position) → n ≤ share_of c ps → sum (shares (change c (less n) ps)) + n ≡ sum (shares ps)
 shares_less c n [] e = omega arith
 shares_less c n (p ∷ ps) e = go (eqb p.holder c) (shares_less c n ps) e
   where
-    go : (t : Bool) → (n ≤ share_of c ps → total (shares (change c (less n) ps)) + n ≡ total (shares ps)) → n ≤ cond t p.share.0 (share_of c ps)
-        → total (shares (cond t (less n p ∷ ps) (p ∷ change c (less n) ps))) + n ≡ p.share.0 + total (shares ps)
-    go true ih q = omega arith
-    go false ih q = let h = ih q in omega arith
+    go : (t : Bool) → (n ≤ share_of c ps → sum (shares (change c (less n) ps)) + n ≡ sum (shares ps)) → n ≤ cond t p.share.0 (share_of c ps)
+        → sum (shares (cond t (less n p ∷ ps) (p ∷ change c (less n) ps))) + n ≡ sum (shares (p ∷ ps))
+    go true ih q = omega (arith, sum-cons)
+    go false ih q = omega (arith, sum-cons, ih q)
 
-pub shares-more : (a n : ℕ) (ps : List Position) → place a ps < length ps → total (shares (change a (more n) ps)) ≡ total (shares ps) + n
+pub shares-more : (a n : ℕ) (ps : List Position) → place a ps < length ps → sum (shares (change a (more n) ps)) ≡ sum (shares ps) + n
 shares-more a n [] lt = absurd (omega arith)
 shares-more a n (p ∷ ps) lt = go (eqb p.holder a) (shares-more a n ps) lt
   where
-    go : (t : Bool) → (place a ps < length ps → total (shares (change a (more n) ps)) ≡ total (shares ps) + n) → cond t 0 (suc (place a ps)) < suc (length ps)
-        → total (shares (cond t (more n p ∷ ps) (p ∷ change a (more n) ps))) ≡ p.share.0 + total (shares ps) + n
-    go true ih q = omega arith
-    go false ih q = let h = ih (omega arith) in omega arith
+    go : (t : Bool) → (place a ps < length ps → sum (shares (change a (more n) ps)) ≡ sum (shares ps) + n) → cond t 0 (suc (place a ps)) < suc (length ps)
+        → sum (shares (cond t (more n p ∷ ps) (p ∷ change a (more n) ps))) ≡ sum (shares (p ∷ ps)) + n
+    go true ih q = omega (arith, sum-cons)
+    go false ih q = omega (arith, sum-cons, ih (omega arith))
 
-pub shares-given : (a n : ℕ) (ps : List Position) → total (shares (given a n ps)) ≡ total (shares ps) + n
+pub shares-given : (a n : ℕ) (ps : List Position) → sum (shares (given a n ps)) ≡ sum (shares ps) + n
 shares-given a n ps =
-    choice (λ (l : List Position). total (shares l) ≡ total (shares ps) + n) (present a ps)
+    choice (λ (l : List Position). sum (shares l) ≡ sum (shares ps) + n) (present a ps)
     (λ e. shares-more a n ps (ltb-true (place a ps) (length ps) e))
-    (λ e. omega (arith, total-last (λ (p : Position). p.share.0) ps (fresh a n)))
+    (λ e. rw map-append (sum_by_push (λ (s : ℕ). s) (shares ps) n))
 
 -- A figure that is 0 in a new position and that no change of a share touches
 
 module _ (f : Position → ℕ) (new : (h s : ℕ) → f (fresh h s) ≡ 0) (ceded : (n : ℕ) (p : Position) → f (less n p) ≡ f p)
     (gained : (n : ℕ) (p : Position) → f (more n p) ≡ f p) (c a n : ℕ) where
-  total-given : (ps : List Position) → total (map f (given a n ps)) ≡ total (map f ps)
+  total-given : (ps : List Position) → sum (map f (given a n ps)) ≡ sum (map f ps)
   total-given ps =
-      choice (λ (l : List Position). total (map f l) ≡ total (map f ps)) (present a ps)
-      (λ e. ap total (map-change a (more n) f (gained n) ps))
-      (λ e. omega (arith, total-last f ps (fresh a n), new a n))
+      choice (λ (l : List Position). sum (map f l) ≡ sum (map f ps)) (present a ps)
+      (λ e. ap sum (map-change a (more n) f (gained n) ps))
+      (λ e. rw map-append (omega (arith, sum_by_push (λ (s : ℕ). s) (map f ps) (f (fresh a n)), new a n)))
 
-  total-assigned : (ps : List Position) → total (map f (assigned c a n ps)) ≡ total (map f ps)
-  total-assigned ps = total-given (change c (less n) ps) ∙ ap total (map-change c (less n) f (ceded n) ps)
+  total-assigned : (ps : List Position) → sum (map f (assigned c a n ps)) ≡ sum (map f ps)
+  total-assigned ps = total-given (change c (less n) ps) ∙ ap sum (map-change c (less n) f (ceded n) ps)
 
 -- Holders
 
@@ -94,18 +96,18 @@ module _ (c a n : ℕ) (ps : List Position) where
       (λ e. rw (holders-same a n (change c (less n) ps) e, holders-less) same)
       (λ e. rw (holders-new a n (change c (less n) ps) e, holders-less) (last (sym present-less ∙ e)))
 
-  pub shares-kept : n ≤ share_of c ps → total (shares (assigned c a n ps)) ≡ total (shares ps)
+  pub shares-kept : n ≤ share_of c ps → sum (shares (assigned c a n ps)) ≡ sum (shares ps)
   shares-kept enough = shares-given a n (change c (less n) ps) ∙ shares_less c n ps enough
 
-  pub unit_days_kept : total (unit_days_column (assigned c a n ps)) ≡ total (unit_days_column ps)
+  pub unit_days_kept : sum (unit_days_column (assigned c a n ps)) ≡ sum (unit_days_column ps)
   unit_days_kept = total-assigned (λ (p : Position). p.unit_days) (λ h s. refl) (λ k p. refl) (λ k p. refl) c a n ps
 
-  pub receipts-kept : total (receipts (assigned c a n ps)) ≡ total (receipts ps)
+  pub receipts-kept : sum (receipts (assigned c a n ps)) ≡ sum (receipts ps)
   receipts-kept = total-assigned (λ (p : Position). p.received.0) (λ h s. refl) (λ k p. refl) (λ k p. refl) c a n ps
 
-  pub holders_right_kept : is_holder a ≡ true → all is_holder (holders ps) ≡ true → all is_holder (holders (assigned c a n ps)) ≡ true
+  pub holders_right_kept : is_holder a ≡ true → list_all is_holder (holders ps) ≡ true → list_all is_holder (holders (assigned c a n ps)) ≡ true
   holders_right_kept right e =
-      holders-assigned (λ (l : List ℕ). all is_holder l ≡ true) e (λ _. all-last is_holder (holders ps) a e right)
+      holders-assigned (λ (l : List ℕ). list_all is_holder l ≡ true) e (λ _. rw (list_all-append is_holder (holders ps) (a ∷ []), e, right))
 
   pub distinct-kept : distinct (holders ps) ≡ true → distinct (holders (assigned c a n ps)) ≡ true
   distinct-kept e =

@@ -1,9 +1,9 @@
 -- Days passed one by one are days passed at once.
-use Prim.Native.Nat.{ℕ, zero, suc, ◌+◌, ◌*◌, ◌<◌}
+use Prim.Native.Nat.{ℕ, zero, suc, ◌+◌, ◌*◌}
 use native.Mathlib.Omega.{arith}
 use mathlib.Core.Path.{◌≡◌, refl, sym, ap, ap₂, ◌∙◌}
 use mathlib.Core.List.{List, [], ◌∷◌, map}
-use lib.ListN.{length, get_or, length-map}
+use lib.ListN.{length, length-map}
 use Rattle.account.specs.declared.Account.{Account}
 use Rattle.book_model.specs.declared.Book.{Book}
 use Rattle.book_model.specs.declared.Position.{Position}
@@ -32,11 +32,6 @@ day_more_held n [] = refl
 day_more_held n (p ∷ ps) =
     let same : p.unit_days + p.share.0 * n + p.share.0 ≡ p.unit_days + p.share.0 * suc n = omega arith in
     ap₂ (λ (u : ℕ) (qs : List Position). with_unit_days p u ∷ qs) same (day_more_held n ps)
-
-pub days_held-at : (n : ℕ) (ps : List Position) (i : ℕ) (d : Position) → i < length ps → get_or (map (days_held n) ps) i d ≡ days_held n (get_or ps i d)
-days_held-at n [] i d lt = absurd (omega arith)
-days_held-at n (p ∷ ps) zero d lt = refl
-days_held-at n (p ∷ ps) (suc i) d lt = days_held-at n ps i d (omega arith)
 
 -- The whole book
 

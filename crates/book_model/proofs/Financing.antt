@@ -5,9 +5,9 @@ use mathlib.Core.Bool.{true}
 use mathlib.Core.List.{List}
 use lib.ListN.{length}
 use borrow.Author.Tests.{leb-true, eqb-true}
-use Rattle.general_laws.specs.Members.{all, distinct}
-use Rattle.general_laws.specs.Sums.{total}
-use Rattle.general_laws.proofs.Choice.{both_true}
+use Rattle.std.specs.List.{list_all, sum}
+use Rattle.general_laws.specs.Members.{distinct}
+use Rattle.std.proofs.lemmas.Bool.{and_parts}
 use Rattle.book_model.specs.Open.{is_share, is_financing}
 use Rattle.book_model.specs.Positions.{is_holder}
 
@@ -15,20 +15,20 @@ pub record Financed (hs ss : List ℕ) : Type 0 where
   pub one_length : length hs ≡ length ss
   pub some : 1 ≤ length hs
   pub few : length hs ≤ 64
-  pub holders-right : all is_holder hs ≡ true
+  pub holders-right : list_all is_holder hs ≡ true
   pub holders-distinct : distinct hs ≡ true
-  pub shares-some : all is_share ss ≡ true
-  pub shares_whole : total ss ≡ 1000000
+  pub shares-some : list_all is_share ss ≡ true
+  pub shares_whole : sum ss ≡ 1000000
 
 pub financed : (hs ss : List ℕ) → is_financing hs ss ≡ true → Financed hs ss
 unfolding is_financing
 financed hs ss e =
-    let lengths = both_true _ _ e in
-    let least = both_true _ _ lengths.1 in
-    let most = both_true _ _ least.1 in
-    let right = both_true _ _ most.1 in
-    let distinct = both_true _ _ right.1 in
-    let shares = both_true _ _ distinct.1 in
+    let lengths = and_parts _ _ e in
+    let least = and_parts _ _ lengths.1 in
+    let most = and_parts _ _ least.1 in
+    let right = and_parts _ _ most.1 in
+    let distinct = and_parts _ _ right.1 in
+    let shares = and_parts _ _ distinct.1 in
     record {
       one_length = eqb-true _ _ lengths.0;
       some = leb-true _ _ least.0;

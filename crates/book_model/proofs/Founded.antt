@@ -4,7 +4,8 @@ use native.Mathlib.Omega.{arith}
 use mathlib.Core.Path.{◌≡◌, refl, ap}
 use mathlib.Core.List.{List, [], ◌∷◌}
 use lib.ListN.{length, get_or}
-use Rattle.general_laws.specs.Sums.{total}
+use Rattle.std.specs.List.{sum}
+use Rattle.general_laws.proofs.Totals.{sum-cons}
 use Rattle.book_model.specs.Book.{fresh}
 use Rattle.book_model.specs.Open.{founded}
 use Rattle.book_model.specs.Positions.{holders, shares, unit_days_column, receipts}
@@ -32,12 +33,12 @@ founded-shares [] (s ∷ ss) e = absurd (omega arith)
 founded-shares (h ∷ hs) [] e = absurd (omega arith)
 founded-shares (h ∷ hs) (s ∷ ss) e = ap (λ (l : List ℕ). s ∷ l) (founded-shares hs ss (omega arith))
 
-pub founded_unit_days : (hs ss : List ℕ) → total (unit_days_column (founded hs ss)) ≡ 0
+pub founded_unit_days : (hs ss : List ℕ) → sum (unit_days_column (founded hs ss)) ≡ 0
 founded_unit_days [] ss = refl
 founded_unit_days (h ∷ hs) [] = refl
-founded_unit_days (h ∷ hs) (s ∷ ss) = omega (arith, founded_unit_days hs ss)
+founded_unit_days (h ∷ hs) (s ∷ ss) = omega (arith, sum-cons, founded_unit_days hs ss)
 
-pub founded-receipts : (hs ss : List ℕ) → total (receipts (founded hs ss)) ≡ 0
+pub founded-receipts : (hs ss : List ℕ) → sum (receipts (founded hs ss)) ≡ 0
 founded-receipts [] ss = refl
 founded-receipts (h ∷ hs) [] = refl
-founded-receipts (h ∷ hs) (s ∷ ss) = omega (arith, founded-receipts hs ss)
+founded-receipts (h ∷ hs) (s ∷ ss) = omega (arith, sum-cons, founded-receipts hs ss)

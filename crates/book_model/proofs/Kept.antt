@@ -2,10 +2,9 @@
 use Prim.Native.Nat.{ℕ}
 use native.Mathlib.Omega.{arith}
 use mathlib.Core.Path.{◌≡◌, refl, ◌∙◌}
-use mathlib.Core.Bool.{false}
 use lib.ListN.{length, get_or, get_or-eq_default, get_or-map}
 use Rattle.apportionment.proofs.Callers.{nothing_for_none, weight-total}
-use Rattle.general_laws.proofs.Choice.{by_order, true_not_false}
+use Rattle.general_laws.proofs.Choice.{by_order}
 use Rattle.apportionment.specs.Apportionment.{part}
 use Rattle.book_model.specs.declared.Book.{Book}
 use Rattle.account.specs.declared.Cents.{Cents}
@@ -32,7 +31,7 @@ empty-sound =
       room-settlements = refl;
       room-rates = refl;
       empty-before = λ _. refl;
-      when_open = λ e. true_not_false false e refl;
+      when_open = λ e. cc;
     }
 
 pub sound : (b : Book) → Reached b → Sound b

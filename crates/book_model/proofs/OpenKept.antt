@@ -2,11 +2,9 @@
 use Prim.Native.Nat.{ℕ}
 use native.Mathlib.Omega.{arith}
 use mathlib.Core.Path.{◌≡◌, refl}
-use mathlib.Core.Bool.{true}
 use mathlib.Core.List.{List, [], ◌∷◌}
 use lib.ListN.{length, drop, length-append, length-drop, length-set}
 use lib.Seq.{take-append_seam, take-suc-set}
-use Rattle.general_laws.proofs.Choice.{true_not_false}
 use Rattle.book_model.specs.declared.Book.{Book}
 use Rattle.account.specs.declared.Cents.{Cents}
 use Rattle.account.specs.declared.Day.{Day}
@@ -85,7 +83,7 @@ module _ (b : Book) (h : Sound b) (first : ℕ) (term : Day) (annual : ℕ) (cen
           room-positions = rw (length-append, length-drop) (omega (arith, count-new, right.financing.few, empty-positions));
           room-settlements = empty-settlements;
           room-rates = rw length-set empty-rates;
-          empty-before = λ shut. true_not_false true refl shut;
+          empty-before = λ shut. cc;
           when_open = λ _. open_new;
         }
 

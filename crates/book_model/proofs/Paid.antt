@@ -5,11 +5,12 @@ use mathlib.Core.Path.{◌≡◌, refl, ap, ◌∙◌}
 use mathlib.Core.List.{List, [], ◌∷◌}
 use lib.ListN.{length, get_or, length-map}
 use lib.Seq.{take-append_seam}
-use Rattle.general_laws.specs.Sums.{sum_below, total}
+use Rattle.std.specs.List.{sum}
+use Rattle.general_laws.specs.Sums.{sum_below}
 use Rattle.apportionment.proofs.Callers.{divides, padded-at, padded-behind, laws, weight-total}
 use Rattle.general_laws.proofs.Choice.{by_order}
 use Rattle.general_laws.proofs.Sums.{sum-none, sum-suc, sum_prefix, sum_first}
-use Rattle.general_laws.proofs.Totals.{total_most_of}
+use Rattle.general_laws.proofs.Totals.{sum-cons, total_most_of}
 use Rattle.std.specs.Prelude.{Ok}
 use Rattle.apportionment.specs.Apportionment.{total_weight, part, padded, apportioned}
 use Rattle.book_model.specs.declared.Book.{Book}
@@ -59,17 +60,15 @@ shares-paid f k (p ∷ ps) = ap (λ (ss : List ℕ). p.share.0 ∷ ss) (shares-p
 
 -- What a payment changes
 
-pub unit_days_paid : (f : ℕ → ℕ) (k : ℕ) (ps : List Position) → total (unit_days_column (paid_from f k ps)) ≡ 0
+pub unit_days_paid : (f : ℕ → ℕ) (k : ℕ) (ps : List Position) → sum (unit_days_column (paid_from f k ps)) ≡ 0
 unit_days_paid f k [] = refl
-unit_days_paid f k (p ∷ ps) = let ih = unit_days_paid f (suc k) ps in omega arith
+unit_days_paid f k (p ∷ ps) = omega (arith, sum-cons, unit_days_paid f (suc k) ps)
 
 pub receipts-paid : (f : ℕ → ℕ) (ps : List Position)
-    → total (receipts (paid_from f 0 ps)) ≡ total (receipts ps) + sum_below (length ps) f
+    → sum (receipts (paid_from f 0 ps)) ≡ sum (receipts ps) + sum_below (length ps) f
 receipts-paid f [] = let e = sum-none f in omega arith
 receipts-paid f (p ∷ ps) =
-    let ih = receipts-paid (λ i. f (suc i)) ps in
-    let e = sum_first (length ps) f in
-    rw (paid_shift f 0 ps) (omega arith)
+    rw (paid_shift f 0 ps) (omega (arith, sum-cons, sum_first (length ps) f, receipts-paid (λ i. f (suc i)) ps))
 
 -- no position of a sound book has received more than 240 settlements
 pub receipt_most : (b : Book) → OpenSound b → (i : ℕ) → (get_or (held b) i (fresh 0 0)).received.0 ≤ 24000000000000
@@ -84,7 +83,7 @@ part-within m us some k lt =
 
 -- Those of m cents by the unit-days of the positions ps
 module _ (ps : List Position) (some : 0 < length ps) (few : length ps ≤ 64)
-    (days-some : 0 < total (unit_days_column ps)) (days-most : total (unit_days_column ps) ≤ 92000000)
+    (days-some : 0 < sum (unit_days_column ps)) (days-most : sum (unit_days_column ps) ≤ 92000000)
     (m : ℕ) (small : m ≤ 100000000000) where
   as_many : length (unit_days_column ps) ≡ length ps
   as_many = length-map ps (λ (p : Position). p.unit_days)
@@ -129,11 +128,11 @@ module _ (b : Book) (m : ℕ) where
   shares-settled = rw held-settled (shares-paid (part m (unit_days_column (held b))) 0 (held b))
 
   -- "Unit-days become 0."
-  pub unit_days_settled : total (unit_days_column (held (settled_book b m))) ≡ 0
+  pub unit_days_settled : sum (unit_days_column (held (settled_book b m))) ≡ 0
   unit_days_settled = rw held-settled (unit_days_paid (part m (unit_days_column (held b))) 0 (held b))
 
   -- the positions receive m together
-  pub receipts-settled : 0 < total (unit_days_column (held b)) → total (receipts (held (settled_book b m))) ≡ total (receipts (held b)) + m
+  pub receipts-settled : 0 < sum (unit_days_column (held b)) → sum (receipts (held (settled_book b m))) ≡ sum (receipts (held b)) + m
   receipts-settled some =
       let ws = unit_days_column (held b) in
       let whole = (laws m ws (omega (arith, weight-total ws))).parts-total in

@@ -29,13 +29,13 @@ module _ (ps : List Position) (h : ℕ) where
     where
       go : (t : Bool) → present h ps ≡ t → Some i ≡ cond t (Some (place h ps)) None → (i ≡ place h ps) × (i < length ps) × (present h ps ≡ true)
       go true p q = let same : i ≡ place h ps = cc in (same, omega (arith, ltb-true (place h ps) (length ps) p), p)
-      go false p q = let z : ◌≡◌ {A = ℕ} 0 1 = cc in absurd (omega arith)
+      go false p q = cc
 
   pub found_nothing : None ≡ found_in ps h → present h ps ≡ false
   found_nothing e = go (present h ps) (e ∙ found_first ps h)
     where
       go : (t : Bool) → None ≡ cond t (Some (place h ps)) None → t ≡ false
-      go true q = let z : ◌≡◌ {A = ℕ} 0 1 = cc in absurd (omega arith)
+      go true q = cc
       go false q = refl
 
 -- What stands at a holder's place

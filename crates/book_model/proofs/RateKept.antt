@@ -3,7 +3,6 @@ use Prim.Native.Nat.{ℕ, ◌≤◌}
 use native.Mathlib.Omega.{arith}
 use mathlib.Core.Path.{◌≡◌, refl}
 use lib.ListN.{length, drop, length-append, length-drop}
-use Rattle.general_laws.proofs.Choice.{true_not_false}
 use Rattle.book_model.specs.declared.Book.{Book}
 use Rattle.account.specs.declared.RateOrder.{RateOrder}
 use Rattle.book_model.specs.Book.{rates_of, settlements_of}
@@ -72,7 +71,7 @@ module _ (b : Book) (h : Sound b) (date annual : ℕ) (right : RateRight b date 
         room-rates =
             rw (length-append (rates_after b order) (drop (length (rates_after b order)) b.rates), length-drop)
             (omega (arith, few, h.room-rates));
-        empty-before = λ shut. true_not_false b.opened right.is_open shut;
+        empty-before = λ shut. cc;
         when_open = λ _. open_revised;
       }
 

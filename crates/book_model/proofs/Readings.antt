@@ -33,6 +33,7 @@ pub totals_open : (b : Book) → not b.opened ≡ false → (date : ℕ) → dat
 unfolding totals_of
 totals_open b is_open date e = rw (is_open, e)
 
+-- No other proof cites it: it says which position is read, so that a definition of `position_of` that reads another is refused.
 pub position_there : (b : Book) (h : ℕ) → not b.opened ≡ false → not (is_holder h) ≡ false → present h (held b) ≡ true
     → answered (get_or (held b) (place h (held b)) no_position) ≡ position_of b h
 unfolding position_of

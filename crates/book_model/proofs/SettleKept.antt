@@ -6,9 +6,8 @@ use mathlib.Core.Path.{◌≡◌, ◌∙◌}
 use mathlib.Core.List.{[], ◌∷◌, ◌++◌, map-append}
 use lib.ListN.{length-append, length-drop, length-set}
 use lib.Seq.{take-suc-set}
-use Rattle.general_laws.specs.Sums.{total}
-use Rattle.general_laws.proofs.Choice.{true_not_false}
-use Rattle.general_laws.proofs.Totals.{total-append}
+use Rattle.std.specs.List.{sum}
+use Rattle.std.proofs.lemmas.List.Sums.{sum_by_push}
 use Rattle.book_model.specs.declared.Book.{Book}
 use Rattle.account.specs.declared.Cents.{Cents}
 use Rattle.book_model.specs.Advance.{last_settled}
@@ -32,8 +31,8 @@ module _ (b : Book) (h : Sound b) (m : ℕ) (right : SettleRight b m) where
   last-settled : last_settled (settled_book b m) ≡ b.today.0
   last-settled = rw settlements-settled (last-joined 0 (settlements_of b) (settled_today b m))
 
-  cents-settled : total (settled_cents (settlements_of (settled_book b m))) ≡ total (settled_cents (settlements_of b)) + m
-  cents-settled = rw (settlements-settled, map-append, total-append) (omega arith)
+  cents-settled : sum (settled_cents (settlements_of (settled_book b m))) ≡ sum (settled_cents (settlements_of b)) + m
+  cents-settled = rw (settlements-settled, map-append) (sum_by_push (λ (n : ℕ). n) (settled_cents (settlements_of b)) m)
 
   same_count : (settled_book b m).count ≡ b.count
   same_count = count-settled b m (omega (arith, was.positions-most, h.room-positions))
@@ -76,7 +75,7 @@ module _ (b : Book) (h : Sound b) (m : ℕ) (right : SettleRight b m) where
         room-positions = rw (length-append, length-drop) (omega (arith, same_count, was.positions-most, h.room-positions));
         room-settlements = rw length-set h.room-settlements;
         room-rates = h.room-rates;
-        empty-before = λ shut. true_not_false b.opened right.is_open shut;
+        empty-before = λ shut. cc;
         when_open = λ _. open_settled;
       }
 

@@ -3,7 +3,6 @@ use Prim.Native.Nat.{ℕ, ◌≤◌}
 use native.Mathlib.Omega.{arith}
 use mathlib.Core.Path.{◌≡◌, ◌∙◌}
 use lib.ListN.{length, length-append, length-drop}
-use Rattle.general_laws.proofs.Choice.{true_not_false}
 use Rattle.book_model.specs.declared.Book.{Book}
 use Rattle.book_model.specs.declared.Parts.{Parts}
 use Rattle.book_model.specs.Book.{held, with_held}
@@ -62,7 +61,7 @@ module _ (b : Book) (h : Sound b) (c a n : ℕ) (right : TransferRight b c a n) 
         room-positions = rw (length-append, length-drop) (omega (arith, count_most, h.room-positions));
         room-settlements = h.room-settlements;
         room-rates = h.room-rates;
-        empty-before = λ shut. true_not_false b.opened right.is_open shut;
+        empty-before = λ shut. cc;
         when_open = λ _. open_assigned;
       }
 

@@ -1,7 +1,7 @@
 -- The invariant: what holds of every reached book. Private contracts alone cite this: nobody has to believe it.
-use Rattle.std.specs.Prelude.{ℕ, ◌+◌, ◌-◌, ◌*◌, ◌≤◌, ◌<◌, ◌≡◌, true, false, List, [], ◌∷◌, map, length}
-use Rattle.general_laws.specs.Members.{all, distinct}
-use Rattle.general_laws.specs.Sums.{total}
+use Rattle.std.specs.Prelude.{ℕ, ◌+◌, ◌-◌, ◌*◌, ◌≤◌, ◌<◌, ◌≡◌, true, false, List, [], ◌∷◌, map, length, sum}
+use Rattle.std.specs.List.{list_all}
+use Rattle.general_laws.specs.Members.{distinct}
 use Rattle.calendar.specs.Calendar.{is_date}
 use Rattle.rates.specs.Rate.{daily_of}
 use Rattle.book_model.specs.declared.Book.{Book}
@@ -45,15 +45,15 @@ pub record OpenSound (b : Book) : Type 0 where
   -- settlements
   pub settlements-most : b.settled ≤ 240
   pub timely : Timely 0 (settlements_of b) b.today.0
-  pub received-most : total (settled_cents (settlements_of b)) ≤ b.settled * 100000000000
+  pub received-most : sum (settled_cents (settlements_of b)) ≤ b.settled * 100000000000
   -- positions
   pub positions-some : 0 < b.count
   pub positions-most : b.count ≤ 64
-  pub holders-right : all is_holder (holders (held b)) ≡ true
+  pub holders-right : list_all is_holder (holders (held b)) ≡ true
   pub holders-distinct : distinct (holders (held b)) ≡ true
-  pub shares_whole : total (shares (held b)) ≡ 1000000
-  pub days-held : total (unit_days_column (held b)) ≡ 1000000 * (b.today.0 - last_settled b)
-  pub receipts-whole : total (receipts (held b)) ≡ total (settled_cents (settlements_of b))
+  pub shares_whole : sum (shares (held b)) ≡ 1000000
+  pub days-held : sum (unit_days_column (held b)) ≡ 1000000 * (b.today.0 - last_settled b)
+  pub receipts-whole : sum (receipts (held b)) ≡ sum (settled_cents (settlements_of b))
 
 pub record Sound (b : Book) : Type 0 where
   pub room-positions : length b.positions ≡ 64

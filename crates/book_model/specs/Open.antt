@@ -1,7 +1,7 @@
 -- Open (document 01): first day, term in days, annual rate, recognised cents; "Holders and shares arrive as two lists of numbers."
-use Rattle.std.specs.Prelude.{ℕ, Bool, true, cond, not, ◌&&◌, List, [], ◌∷◌, ◌++◌, leb, ltb, eqb, length, drop, set}
-use Rattle.general_laws.specs.Members.{all, distinct}
-use Rattle.general_laws.specs.Sums.{total}
+use Rattle.std.specs.Prelude.{ℕ, Bool, true, cond, not, ◌&&◌, List, [], ◌∷◌, ◌++◌, leb, ltb, eqb, length, drop, set, sum}
+use Rattle.std.specs.List.{list_all}
+use Rattle.general_laws.specs.Members.{distinct}
 use Rattle.calendar.specs.Calendar.{is_date}
 use Rattle.book_model.specs.declared.Book.{Book}
 use Rattle.account.specs.declared.Cents.{Cents}
@@ -21,7 +21,7 @@ unfoldable pub is_financing : List ℕ → List ℕ → Bool
 is_financing hs ss =
     eqb (length hs) (length ss)
     && (leb 1 (length hs)
-    && (leb (length hs) 64 && (all is_holder hs && (distinct hs && (all is_share ss && eqb (total ss) 1000000)))))
+    && (leb (length hs) 64 && (list_all is_holder hs && (distinct hs && (list_all is_share ss && eqb (sum ss) 1000000)))))
 
 -- not 4: "term not 1–6,000, or first day after 20991231"
 abbrev pub is_term : ℕ → ℕ → Bool

@@ -1,4 +1,5 @@
 // A book that calls reached, and what a call gives back: its answer and the book after it.
+ghost use Rattle.std.specs.Fn.{FnOnceReturnsAtMut};
 ghost use Rattle.std.specs.Prelude.{◌≡◌};
 ghost use Rattle.book_model.specs.Book.{empty_book};
 ghost use Rattle.book_model.specs.Reached.{Reached};
@@ -18,6 +19,19 @@ impl ReachedBook {
     {
         ReachedBook {
             book: Book::empty(),
+        }
+    }
+
+    // By value: a call in place on the book, and the book after it.
+    pub fn call<T, E, F: FnOnce(&mut ReachedBook) -> Result<T, E>>(self, call: F) -> Called<T, E>
+        requires { F.IsAlwaysCallable call }
+        ensures { FnOnceReturnsAtMut F.FnOnce call self result.answer result.book }
+    {
+        let mut after = self;
+        let answer = call(&mut after);
+        Called {
+            answer,
+            book: after,
         }
     }
 }

@@ -8,7 +8,7 @@ mod days;
 mod positions;
 
 ghost use Rattle.std.specs.Prelude.{◌≡◌};
-ghost use Rattle.book_model.specs.Book.{empty_book};
+ghost use Rattle.book_model.specs.Book.{empty_book, fresh, held};
 ghost use Rattle.book_model.specs.Outcome.{refusal_number};
 ghost use Rattle.book_model.specs.declared.Refusal.TheVariants.{Date, Rate};
 
@@ -37,8 +37,9 @@ pub struct Position {
     pub received: Cents,
 }
 
-// One collection right, or none. The first day is a date; positions stand in order of first appearance. `opened` is a flag and the lists are arrays
-// with counts beside them, as the papers name that form: a book holds everything by value, and an empty one is the same for every caller.
+// One collection right, or none. The first day is a date; positions stand in order of first appearance. The lists are arrays with counts beside them,
+// as the papers name that form: a book holds everything by value. `opened` is a flag beside the figures: theorems read the figures of any book, and
+// those of an empty one are zeros.
 #[derive(Clone, Copy)]
 pub struct Book {
     pub opened: bool,
@@ -55,46 +56,30 @@ pub struct Book {
     pub rates: [RateOrder; Book::RATES],
 }
 
-// Why a call is refused, in document 01's trade words.
+// Why a call is refused, in document 01's trade words, each with its number in that document's table.
 #[derive(Clone, Copy, Debug, PartialEq, Eq)]
 pub enum Refusal {
-    Unopened,
-    AlreadyOpen,
-    Date,
-    Term,
-    Amount,
-    Rate,
-    Financing,
-    Day,
-    SettlementPending,
-    Holder,
-    Share,
-    BookFull,
-    NoDayHeld,
-    Overpaid,
+    Unopened = 1,
+    AlreadyOpen = 2,
+    Date = calendar::NO_DATE as isize,
+    Term = 4,
+    Amount = 5,
+    Rate = rates::OVER as isize,
+    Financing = 7,
+    Day = 8,
+    SettlementPending = 9,
+    Holder = 10,
+    Share = 11,
+    BookFull = 12,
+    NoDayHeld = 13,
+    Overpaid = 14,
 }
 
-// Its number in document 01's table.
 impl Numbered for Refusal {
     ghost number = { refusal_number };
 
     fn number(self) -> u32 {
-        match self {
-            Refusal::Unopened => 1,
-            Refusal::AlreadyOpen => 2,
-            Refusal::Date => calendar::NO_DATE,
-            Refusal::Term => 4,
-            Refusal::Amount => 5,
-            Refusal::Rate => rates::OVER,
-            Refusal::Financing => 7,
-            Refusal::Day => 8,
-            Refusal::SettlementPending => 9,
-            Refusal::Holder => 10,
-            Refusal::Share => 11,
-            Refusal::BookFull => 12,
-            Refusal::NoDayHeld => 13,
-            Refusal::Overpaid => 14,
-        }
+        self as u32
     }
 }
 
@@ -142,6 +127,20 @@ pub struct Totals {
     pub account: Account,
 }
 
+impl Position {
+    // A holder's new position: its share, and nothing else yet.
+    pub fn fresh(holder: u32, share: Parts) -> Position
+        ensures { result ≡ fresh holder share.0 }
+    {
+        Position {
+            holder,
+            share,
+            unit_days: 0,
+            received: Cents(0),
+        }
+    }
+}
+
 impl Book {
     // The most positions, settlements and stored rates, and the most days from one settlement to the next.
     pub const POSITIONS: usize = apportionment::POSITIONS;
@@ -158,16 +157,18 @@ impl Book {
     // The greatest number of a holder.
     pub const GREATEST_HOLDER: u32 = 999999999;
 
+    // The positions in use, for readers: all of them where the count is above their number, as it is in no reached book. The calls cut the array
+    // themselves, as they change it at places.
+    pub fn held(&self) -> &[Position]
+        ensures { result.now ≡ held self.now }
+    {
+        &self.positions[..self.count.min(Book::POSITIONS)]
+    }
+
     #[tactic(auto, unfolding(crate::specs::Book::empty_book))]
     pub fn empty() -> Book
         ensures { result ≡ empty_book }
     {
-        let position = Position {
-            holder: 0,
-            share: Parts(0),
-            unit_days: 0,
-            received: Cents(0),
-        };
         let settlement = Settlement {
             day: Day(0),
             cents: Cents(0),
@@ -177,7 +178,7 @@ impl Book {
             annual: 0,
             daily: 0,
         };
-        let positions = [position; Book::POSITIONS];
+        let positions = [Position::fresh(0, Parts(0)); Book::POSITIONS];
         let settlements = [settlement; Book::SETTLEMENTS];
         let rates = [order; Book::RATES];
         Book {
@@ -188,11 +189,11 @@ impl Book {
             recognised: Cents(0),
             account: Account::opening(Cents(0)),
             count: 0,
-            positions: positions,
+            positions,
             settled: 0,
-            settlements: settlements,
+            settlements,
             rated: 0,
-            rates: rates,
+            rates,
         }
     }
 }

@@ -8,7 +8,7 @@ use crate::{Book, Position};
 pub fn is_holder(number: u32) -> bool
     ensures { result ≡ is_holder number }
 {
-    number != 0 && number <= Book::GREATEST_HOLDER
+    (1..=Book::GREATEST_HOLDER).contains(&number)
 }
 
 // Where a holder stands among positions.

@@ -3,8 +3,7 @@
 
 ghost use Rattle.std.specs.Prelude.{◌≡◌, ◌≤◌, ◌&&◌, ◌++◌, length, drop, sum, eqb, leb};
 ghost use Rattle.std.specs.List.{list_all};
-ghost use Rattle.general_laws.specs.Members.{all, distinct};
-ghost use Rattle.general_laws.specs.Sums.{total};
+ghost use Rattle.general_laws.specs.Members.{distinct};
 ghost use Rattle.book_model.specs.Called.{stated};
 ghost use Rattle.book_model.specs.Open.{is_share, is_term, is_recognised, is_financing, founded, opened};
 ghost use Rattle.book_model.specs.Outcome.{nothing, outcome};
@@ -14,14 +13,25 @@ use book_model::{
     Account, Book, Called, Cents, Day, Parts, Position, RateOrder, ReachedBook, Refusal, is_holder,
 };
 
+// What Open is given. Holders and shares are two lists; the shares stand in the holders' order.
+#[derive(Clone, Copy)]
+pub struct Opening<'a> {
+    pub first: u32,
+    pub term: Day,
+    pub annual: u64,
+    pub cents: Cents,
+    pub holders: &'a [u32],
+    pub shares: &'a [u32],
+}
+
 // The longest term, in days.
-const LONGEST_TERM: u32 = Account::DAYS;
+const LONGEST_TERM: u32 = Account::DAYS.0;
 
 // The latest date that a right begins on.
 const LAST_FIRST_DAY: u32 = 20991231;
 
 // The most cents that a right is recognised with.
-const GREATEST_RECOGNISED: u64 = Account::CENTS;
+const GREATEST_RECOGNISED: u64 = Account::CENTS.0;
 
 fn is_term(first: u32, term: Day) -> bool
     ensures { result ≡ is_term first term.0 }
@@ -32,7 +42,7 @@ fn is_term(first: u32, term: Day) -> bool
 fn is_recognised(cents: Cents) -> bool
     ensures { result ≡ is_recognised cents.0 }
 {
-    cents.0 != 0 && cents.0 <= GREATEST_RECOGNISED
+    (1..=GREATEST_RECOGNISED).contains(&cents.0)
 }
 
 // A chain or a recursion stands in a function of its own, as no proof of it was found inside a condition: so two chains of one shape are two functions.
@@ -64,17 +74,15 @@ fn total_of(shares: &[u32]) -> u64
     shares.iter().map(|&share| u64::from(share)).sum()
 }
 
-#[tactic(auto, using(crate::proofs::Words::all_is))]
 fn are_holders(holders: &[u32]) -> bool
-    ensures { result ≡ leb 1 (length holders.now) && (leb (length holders.now) 64 && (all is_holder holders.now && distinct holders.now)) }
+    ensures { result ≡ leb 1 (length holders.now) && (leb (length holders.now) 64 && (list_all is_holder holders.now && distinct holders.now)) }
 {
     (1..=Book::POSITIONS).contains(&holders.len()) && all_holders(holders) && all_distinct(holders)
 }
 
-#[tactic(auto, using(crate::proofs::Words::all_is, crate::proofs::Words::total_is))]
 fn are_shares(shares: &[u32]) -> bool
     requires { length shares.now ≤ 64 }
-    ensures { result ≡ all is_share shares.now && eqb (total shares.now) 1000000 }
+    ensures { result ≡ list_all is_share shares.now && eqb (sum shares.now) 1000000 }
 {
     all_shares(shares) && total_of(shares) == Book::PARTS
 }
@@ -92,58 +100,47 @@ fn place_holders(positions: &mut [Position], holders: &[u32], shares: &[u32])
     requires room { length holders.now ≤ length positions.old }
     ensures { positions.new ≡ founded holders.now shares.now ++ drop (length holders.now) positions.old }
 {
-    for (i, &holder) in holders.iter().enumerate() {
-        positions[i] = Position {
-            holder,
-            share: Parts(u64::from(shares[i])),
-            unit_days: 0,
-            received: Cents(0),
-        };
+    // By index: no proof was found of what a zip over iter_mut leaves.
+    for (i, (&holder, &share)) in holders.iter().zip(shares).enumerate() {
+        positions[i] = Position::fresh(holder, Parts(u64::from(share)));
     }
 }
 
 // On any book, reached or not: nothing is supposed of it. An open one is refused, and a new book stands in another's place.
 #[tactic(auto, unfolding(book_model::specs::Open::opened))]
-pub fn open_any_book(
-    book: &mut Book,
-    first: u32,
-    term: Day,
-    annual: u64,
-    cents: Cents,
-    holders: &[u32],
-    shares: &[u32],
-) -> Result<(), Refusal>
-    ensures { outcome nothing result book.new ≡ opened book.old first term annual cents holders.now shares.now }
+pub fn open_any_book(book: &mut Book, opening: Opening) -> Result<(), Refusal>
+    ensures { let o = opening.entry in
+        outcome nothing result book.new ≡ opened book.old o.first o.term o.annual o.cents o.holders.now o.shares.now }
 {
     if book.opened {
         return Err(Refusal::AlreadyOpen);
     }
-    if !calendar::is_date(first) {
+    if !calendar::is_date(opening.first) {
         return Err(Refusal::Date);
     }
-    if !is_term(first, term) {
+    if !is_term(opening.first, opening.term) {
         return Err(Refusal::Term);
     }
-    if !is_recognised(cents) {
+    if !is_recognised(opening.cents) {
         return Err(Refusal::Amount);
     }
-    let daily = rates::daily_rate(annual)?;
-    if !is_financing(holders, shares) {
+    let daily = rates::daily_rate(opening.annual)?;
+    if !is_financing(opening.holders, opening.shares) {
         return Err(Refusal::Financing);
     }
     *book = Book {
         opened: true,
-        first,
-        term,
-        recognised: cents,
-        account: Account::opening(cents),
+        first: opening.first,
+        term: opening.term,
+        recognised: opening.cents,
+        account: Account::opening(opening.cents),
         ..Book::empty()
     };
-    place_holders(&mut book.positions, holders, shares);
-    book.count = holders.len();
+    place_holders(&mut book.positions, opening.holders, opening.shares);
+    book.count = opening.holders.len();
     book.rates[0] = RateOrder {
         first: Day(0),
-        annual,
+        annual: opening.annual,
         daily,
     };
     book.rated = 1;
@@ -151,36 +148,17 @@ pub fn open_any_book(
 }
 
 // The same on a book that the caller keeps.
-pub fn open_book_in_place(
-    book: &mut ReachedBook,
-    first: u32,
-    term: Day,
-    annual: u64,
-    cents: Cents,
-    holders: &[u32],
-    shares: &[u32],
-) -> Result<(), Refusal>
-    ensures { outcome nothing result book.new.book ≡ opened book.old.book first term annual cents holders.now shares.now }
+pub fn open_book_in_place(book: &mut ReachedBook, opening: Opening) -> Result<(), Refusal>
+    ensures { let o = opening.entry in
+        outcome nothing result book.new.book ≡ opened book.old.book o.first o.term o.annual o.cents o.holders.now o.shares.now }
 {
-    open_any_book(&mut book.book, first, term, annual, cents, holders, shares)
+    open_any_book(&mut book.book, opening)
 }
 
-// By value, the form of every call: written out in each, as one for all would have a closure's contract for its own.
-pub fn open_book(
-    book: ReachedBook,
-    first: u32,
-    term: Day,
-    annual: u64,
-    cents: Cents,
-    holders: &[u32],
-    shares: &[u32],
-) -> Called<()>
-    ensures { stated nothing result ≡ opened book.book first term annual cents holders.now shares.now }
+// By value, the form of every call. The closure holds the opening's parts: of one that holds a struct with a lifetime the check knows nothing.
+pub fn open_book(book: ReachedBook, opening: Opening) -> Called<()>
+    ensures { let o = opening.entry in
+        stated nothing result ≡ opened book.book o.first o.term o.annual o.cents o.holders.now o.shares.now }
 {
-    let mut after = book;
-    let answer = open_book_in_place(&mut after, first, term, annual, cents, holders, shares);
-    Called {
-        answer,
-        book: after,
-    }
+    book.call(|book| open_book_in_place(book, Opening { ..opening }))
 }

@@ -2,14 +2,14 @@
 use Prim.Native.Nat.{ℕ, ◌+◌, ◌-◌, ◌≤◌, ◌<◌}
 use native.Mathlib.Omega.{arith}
 use mathlib.Core.Path.{◌≡◌, refl, ap, ◌∙◌}
-use mathlib.Core.Bool.{true, false, cond, not, ◌&&◌, ◌||◌}
+use mathlib.Core.Bool.{true, false, cond, ◌&&◌}
 use mathlib.Core.List.{List, [], ◌∷◌, ◌++◌}
-use borrow.Author.Tests.{lt-ltb, le-ltb, le-leb, lt-leb}
 use lib.Dec.{leb, ltb}
 use lib.ListN.{length, take, drop, set}
 use lib.Seq.{length-take-le}
 use Rattle.std.specs.Prelude.{Result, Ok, Err, filter}
-use Rattle.general_laws.proofs.Choice.{by_order}
+use Rattle.std.proofs.Common.{rules}
+use Rattle.std.proofs.lemmas.Bool.Decides.{nat_tests}
 use Rattle.calendar.specs.Calendar.{day_count}
 use Rattle.calendar.proofs.Callers.{Counted}
 use Rattle.rates.specs.Rate.{daily_of}
@@ -36,12 +36,6 @@ filtered day [] = refl
 filtered day (o ∷ os) =
     ap (λ (rest : List RateOrder). cond (ltb o.first.0 day) (o ∷ rest) rest) (filtered day os)
 
-outside : (n a b : ℕ) → ltb n (a + 0) || ltb b n ≡ not (leb a n && leb n b)
-outside n a b =
-    by_order n a (λ lt. rw (lt-ltb n (a + 0) (omega arith), lt-leb a n lt)) λ from.
-    by_order b n (λ lt. rw (le-ltb n (a + 0) (omega arith), lt-ltb b n lt, le-leb a n from, lt-leb n b lt))
-    (λ until. rw (le-ltb n (a + 0) (omega arith), le-ltb b n until, le-leb a n from, le-leb n b until))
-
 -- What is known once the date and the rate are right
 pub record Dated (b : Book) (date annual count first daily : ℕ) : Type 0 where
   pub sound : Sound b
@@ -54,16 +48,9 @@ module _ {b : Book} {date annual count first daily : ℕ} (h : Dated b date annu
   pub was : OpenSound b
   was = h.sound.when_open h.is_open
 
-  from-date : rated_from b count annual ≡ rated b date annual
-  unfolding rated
-  from-date = rw (h.is_open, h.told.is-date, le-ltb 4000 annual h.rate.0, h.told.is-count)
-
   pub wrong_day : leb first count && leb count (first + b.today.0) ≡ false → refuse no_changes b refusal.Day ≡ rated b date annual
-  unfolding rated_from
-  wrong_day out = go ∙ from-date
-    where
-      go : refuse no_changes b refusal.Day ≡ rated_from b count annual
-      go = rw (← h.first-is, outside count first (first + b.today.0), out)
+  unfolding rated rated_from
+  wrong_day out = grind (arith, nat_tests)
 
 -- and once the order has a place among the stored rates
 pub record Placed (b : Book) (date annual count first daily n : ℕ) : Type 0 where
@@ -79,19 +66,13 @@ module _ {b : Book} {date annual count first daily n : ℕ} (p : Placed b date a
   at_place = p.place ∙ ap length (filtered (count - first) (rates_of b))
 
   pub full : 16 ≤ n → refuse no_changes b refusal.BookFull ≡ rated b date annual
-  unfolding rated_from
-  full le = go ∙ from-date p.dated
-    where
-      go : refuse no_changes b refusal.BookFull ≡ rated_from b count annual
-      go = rw (← p.dated.first-is, outside count first (first + b.today.0), p.within, ← at_place, le-leb 16 n le)
+  unfolding rated rated_from
+  full le = let dated = p.dated in let place = at_place in grind (arith, nat_tests)
 
   module _ (free : n < 16) where
     of-order : revised b order ≡ rated b date annual
-    unfolding rated_from
-    of-order = go ∙ from-date p.dated
-      where
-        go : revised b order ≡ rated_from b count annual
-        go = rw (← p.dated.first-is, outside count first (first + b.today.0), p.within, ← at_place, lt-leb 16 n free, p.dated.rate.1)
+    unfolding rated rated_from
+    of-order = let dated = p.dated in let place = at_place in grind (arith, nat_tests)
 
     room : b.rated ≤ length b.rates
     room = omega (arith, (was p.dated).rates-most, p.dated.sound.room-rates)
@@ -134,10 +115,7 @@ module _ {b : Book} {date annual count first daily n : ℕ} (p : Placed b date a
 
       pub over : (u : Unreckoned) → r ≡ Err u → refuse no_changes b refusal.Overpaid ≡ rated b date annual
       unfolding revised
-      over u e = go ∙ of-order
-        where
-          go : refuse no_changes b refusal.Overpaid ≡ revised b order
-          go = rw (is-over b.recognised.0 daily_rates (settlements_of b) b.today.0 r replayed-is u e)
+      over u e = let stops = is-over b.recognised.0 daily_rates (settlements_of b) b.today.0 r replayed-is u e in let is = of-order in search rules
 
       module _ (a : Account) (e : r ≡ Ok a) where
         is : (overpaid b.recognised.0 daily_rates (settlements_of b) ≡ false) × (a ≡ account_after b order)
@@ -169,7 +147,4 @@ module _ {b : Book} {date annual count first daily n : ℕ} (p : Placed b date a
 
         pub stands_revised : accept (changes_of b.account a) after ≡ rated b date annual
         unfolding revised with_rates
-        stands_revised = go ∙ of-order
-          where
-            go : accept (changes_of b.account a) after ≡ revised b order
-            go = rw (is.0, is.1, array, as_many)
+        stands_revised = let known = is in let rates = array in let many = as_many in let revises = of-order in search rules

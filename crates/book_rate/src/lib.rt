@@ -31,8 +31,9 @@ fn changes(before: Account, after: Account) -> Revised
     }
 }
 
-// The book that comes in is changed in place; a refusal leaves it as it was. It asks for a sound book, as no type says so while the parts change.
-#[tactic(auto, unfolding(book_model::specs::Rate::rated))]
+// The book that comes in is changed in place; a refusal leaves it as it was. It asks for a sound book, and is no call on a reached one itself: there
+// the proof that the book is reached would stand at each way out.
+#[tactic(auto, using(calendar::proofs::Callers::no_date_tells, rates::proofs::Callers::over_tells), unfolding(book_model::specs::Rate::rated))]
 fn rate_in(book: &mut Book, date: u32, annual: u64) -> Result<Revised, Refusal>
     requires { Sound book.old }
     ensures { outcome no_changes result book.new ≡ rated book.old date annual }
@@ -81,14 +82,9 @@ pub fn rate_in_place(book: &mut ReachedBook, date: u32, annual: u64) -> Result<R
     rate_in(&mut book.book, date, annual)
 }
 
-// By value, the form of every call: written out in each, as one for all would have a closure's contract for its own.
+// By value, the form of every call.
 pub fn rate(book: ReachedBook, date: u32, annual: u64) -> Called<Revised>
     ensures { stated no_changes result ≡ rated book.book date annual }
 {
-    let mut after = book;
-    let answer = rate_in_place(&mut after, date, annual);
-    Called {
-        answer,
-        book: after,
-    }
+    book.call(|book| rate_in_place(book, date, annual))
 }

@@ -7,7 +7,7 @@ ghost use Rattle.book_model.specs.Read.{position_of, position_at, totals_of};
 
 use book_model::{Placed, Position, ReachedBook, Refusal, Totals, find, is_holder};
 
-#[tactic(auto, unfolding(book_model::specs::Read::position_of))]
+#[tactic(auto, using(crate::proofs::Held::lookups), unfolding(book_model::specs::Read::position_of))]
 pub fn position_of(book: &ReachedBook, holder: u32) -> Result<Position, Refusal>
     ensures { case_of no_position result ≡ position_of book.now.book holder }
 {
@@ -18,15 +18,13 @@ pub fn position_of(book: &ReachedBook, holder: u32) -> Result<Position, Refusal>
     if !is_holder(holder) {
         return Err(Refusal::Holder);
     }
-    let held = &book.positions[..book.count];
-    match find(held, holder) {
-        Some(place) => Ok(held[place]),
-        None => Err(Refusal::Holder),
-    }
+    let held = book.held();
+    let place = find(held, holder).ok_or(Refusal::Holder)?;
+    Ok(held[place])
 }
 
 // The position at a place in book order, counted from 0.
-#[tactic(auto, unfolding(book_model::specs::Read::position_at))]
+#[tactic(auto, using(crate::proofs::Held::held_counted), unfolding(book_model::specs::Read::position_at))]
 pub fn position_at(book: &ReachedBook, place: usize) -> Result<Placed, Refusal>
     ensures { case_of not_placed result ≡ position_at book.now.book place }
 {
@@ -34,13 +32,13 @@ pub fn position_at(book: &ReachedBook, place: usize) -> Result<Placed, Refusal>
     if !book.opened {
         return Err(Refusal::Unopened);
     }
-    let count = book.count;
-    if count <= place {
+    let held = book.held();
+    if held.len() <= place {
         return Err(Refusal::Holder);
     }
     Ok(Placed {
-        count,
-        position: book.positions[place],
+        count: held.len(),
+        position: held[place],
     })
 }
 

@@ -15,13 +15,13 @@ use book_model::{Book, Called, Cents, Day, Position, ReachedBook, Refusal, Settl
 const GREATEST_PAYMENT: u64 = apportionment::AMOUNT;
 
 // The day of the last settlement, or day 0 where nothing was settled.
+#[tactic(auto, using(crate::proofs::LastDay::last_is))]
 fn last_settled(settlements: &[Settlement]) -> Day
     ensures { result.0 ≡ last_day 0 settlements.now }
 {
-    match settlements.last() {
-        Some(settlement) => settlement.day,
-        None => Day(0),
-    }
+    settlements
+        .last()
+        .map_or(Day(0), |settlement| settlement.day)
 }
 
 // The unit-days of positions, by which a payment is split.
@@ -30,6 +30,7 @@ fn weights_of(held: &[Position]) -> [u64; Book::POSITIONS]
     ensures { take (length held.now) result ≡ unit_days_column held.now }
 {
     let mut weights = [0u64; Book::POSITIONS];
+    // By index: no proof was found of what a zip over iter_mut leaves.
     for (place, position) in held.iter().enumerate() {
         weights[place] = u64::from(position.unit_days);
     }
@@ -43,13 +44,15 @@ fn pay_out(held: &mut [Position], portions: &[u64; Book::POSITIONS])
     requires portions_small { (k : ℕ) → get_or portions.now k 0 ≤ 100000000001 }
     ensures { held.new ≡ paid_from (λ k. get_or portions.now k 0) 0 held.old }
 {
+    // By index: no proof was found of what a zip over iter_mut leaves.
     for (place, position) in held.iter_mut().enumerate() {
         position.received.0 += portions[place];
         position.unit_days = 0;
     }
 }
 
-// The book that comes in is changed in place; a refusal leaves it as it was. It asks for a sound book, as no type says so while the parts change.
+// The book that comes in is changed in place; a refusal leaves it as it was. It asks for a sound book, and is no call on a reached one itself: there
+// the proof that the book is reached would stand at each way out.
 #[tactic(auto, unfolding(book_model::specs::Settle::settled))]
 fn settle_in(book: &mut Book, cents: Cents) -> Result<Taken, Refusal>
     requires { Sound book.old }
@@ -65,15 +68,16 @@ fn settle_in(book: &mut Book, cents: Cents) -> Result<Taken, Refusal>
         return Err(Refusal::BookFull);
     }
     let last = last_settled(&book.settlements[..book.settled]);
-    if book.today.0 <= last.0 {
+    if book.today <= last {
         return Err(Refusal::NoDayHeld);
     }
-    if book.account.due.0 + book.account.outstanding.0 < cents.0 {
+    // Overpaid: a reached book's figures are in range.
+    let Ok(after) = account::pay(book.account, cents) else {
         return Err(Refusal::Overpaid);
-    }
+    };
     let interest = account::interest_of(cents, book.account.due);
     let principal = Cents(cents.0 - interest.0);
-    book.account = account::pay(book.account, cents).unwrap();
+    book.account = after;
     let held = &mut book.positions[..book.count];
     let weights = weights_of(held);
     let portions = apportionment::apportion(cents.0, &weights[..held.len()]).unwrap();
@@ -96,14 +100,9 @@ pub fn settle_in_place(book: &mut ReachedBook, cents: Cents) -> Result<Taken, Re
     settle_in(&mut book.book, cents)
 }
 
-// By value, the form of every call: written out in each, as one for all would have a closure's contract for its own.
+// By value, the form of every call.
 pub fn settle(book: ReachedBook, cents: Cents) -> Called<Taken>
     ensures { stated nothing_taken result ≡ settled book.book cents }
 {
-    let mut after = book;
-    let answer = settle_in_place(&mut after, cents);
-    Called {
-        answer,
-        book: after,
-    }
+    book.call(|book| settle_in_place(book, cents))
 }

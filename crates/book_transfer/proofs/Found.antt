@@ -1,5 +1,5 @@
 -- What `find` tells of a holder in an open book, and the two positions that a transfer changes.
-use Rattle.std.proofs.Common.{arith, ℕ, ◌≡◌, ◌+◌, ◌≤◌, ◌<◌, sym, ap, ◌∙◌, true, Some, get_or, set, get_or-take}
+use Rattle.std.proofs.Common.{arith, refl, ℕ, ◌≡◌, ◌+◌, ◌≤◌, ◌<◌, sym, ap, ◌∙◌, true, Some, length, get_or, set, get_or-take}
 use lib.Dec.{eqb}
 use borrow.Author.Tests.{eqb-true}
 use Rattle.std.proofs.lemmas.List.{get_or-set_other}
@@ -9,8 +9,8 @@ use Rattle.book_model.specs.declared.Position.{Position}
 use Rattle.book_model.specs.Book.{held}
 use Rattle.book_model.specs.Invariant.{Sound}
 use Rattle.book_model.specs.Outcome.{no_position}
-use Rattle.book_model.specs.Positions.{found_in, less, present}
-use Rattle.book_model.proofs.Callers.{Cedent, found_at, length-held, share-most}
+use Rattle.book_model.specs.Positions.{found_in, less, place, present, share_of}
+use Rattle.book_model.proofs.Callers.{Cedent, found_at, found_nothing, length-held, share-at, share-most}
 
 -- a holder stands at a place
 pub record Found (b : Book) (h i : ℕ) : Type 0 where
@@ -43,3 +43,13 @@ module _ {b : Book} {c a i j : ℕ} (from : Found b c i) (to : Found b a j) (oth
   -- two shares of one book
   pub sum_most : n ≤ (at i).share.0 → (get_or (set b.positions i (less n (at i))) j no_position).share.0 + n ≤ 2000000
   sum_most enough = rw to_kept (omega (arith, share-most from.cedent i from.cedent.below, share-most to.cedent j to.cedent.below))
+
+-- and the share there is the holder's
+pub share_there : (b : Book) (h i : ℕ) → Sound b → b.opened ≡ true → Some i ≡ found_in (held b) h
+    → (share_of h (held b) ≡ (get_or b.positions i no_position).share.0) × (present h (held b) ≡ true)
+share_there b h i sound is_open e =
+    let f = found sound is_open h i e in
+    let within : place h (held b) < length (held b) = omega (arith, found_at (held b) h i e) in
+    (rw (share-at h no_position (held b) within, ← f.cedent.here, get_or-take b.count b.positions i no_position f.cedent.below) refl, f.there)
+
+pub ruleset lookups = (found_nothing, share_there)

@@ -7,10 +7,11 @@ ghost use Rattle.book_model.specs.Invariant.{Sound};
 ghost use Rattle.book_model.specs.Outcome.{no_parts, outcome};
 ghost use Rattle.book_model.specs.Transfer.{transferred};
 
-use book_model::{Book, Called, Cents, Parts, Position, ReachedBook, Refusal, find, is_holder};
+use book_model::{Book, Called, Parts, Position, ReachedBook, Refusal, find, is_holder};
 
-// The book that comes in is changed in place; a refusal leaves it as it was. It asks for a sound book, as no type says so while the parts change.
-#[tactic(auto, unfolding(book_model::specs::Transfer::transferred))]
+// The book that comes in is changed in place; a refusal leaves it as it was. It asks for a sound book, and is no call on a reached one itself: there
+// the proof that the book is reached would stand at each way out.
+#[tactic(auto, using(crate::proofs::Found::lookups), unfolding(book_model::specs::Transfer::transferred, book_model::specs::Transfer::moved))]
 fn transfer_in(book: &mut Book, cedent: u32, assignee: u32, parts: Parts) -> Result<Parts, Refusal>
     requires { Sound book.old }
     ensures { outcome no_parts result book.new ≡ transferred book.old cedent assignee parts }
@@ -36,12 +37,7 @@ fn transfer_in(book: &mut Book, cedent: u32, assignee: u32, parts: Parts) -> Res
     match to {
         Some(to) => book.positions[to].share.0 += parts.0,
         None => {
-            book.positions[book.count] = Position {
-                holder: assignee,
-                share: parts,
-                unit_days: 0,
-                received: Cents(0),
-            };
+            book.positions[book.count] = Position::fresh(assignee, parts);
             book.count += 1;
         }
     }
@@ -60,14 +56,9 @@ pub fn transfer_in_place(
     transfer_in(&mut book.book, cedent, assignee, parts)
 }
 
-// By value, the form of every call: written out in each, as one for all would have a closure's contract for its own.
+// By value, the form of every call.
 pub fn transfer(book: ReachedBook, cedent: u32, assignee: u32, parts: Parts) -> Called<Parts>
     ensures { stated no_parts result ≡ transferred book.book cedent assignee parts }
 {
-    let mut after = book;
-    let answer = transfer_in_place(&mut after, cedent, assignee, parts);
-    Called {
-        answer,
-        book: after,
-    }
+    book.call(|book| transfer_in_place(book, cedent, assignee, parts))
 }

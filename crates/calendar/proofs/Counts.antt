@@ -9,12 +9,12 @@ use Rattle.calendar.proofs.Parts.{parts_of, day-most, next_is_date}
 use Rattle.calendar.proofs.Walk.{date_of_count, after-sum}
 use Rattle.calendar.proofs.Order.{after_lt, after_le, lt_of_after_lt, after_injective}
 
-pub last-count : day_count last_date ≡ 73048
+pub last_count : day_count last_date ≡ 73048
 unfolding day_count days_of_years
-last-count = refl
+last_count = refl
 
 last-after : after first_date 73048 ≡ last_date
-last-after = ap (after first_date) (sym last-count) ∙ date_of_count last_date refl
+last-after = ap (after first_date) (sym last_count) ∙ date_of_count last_date refl
 
 within-last : (n : ℕ) → n < 73049 → after first_date n ≤ last_date
 within-last n h = omega (arith, last-after, after_le first_date n 73048 (le_of_suc-le-suc h))

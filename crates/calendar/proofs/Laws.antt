@@ -1,14 +1,14 @@
 -- The crate's laws.
 use mathlib.Core.Path.{◌≡◌, sym, ◌∙◌, ap}
-use mathlib.Core.Logic.{⊎_elim}
 use Prim.Native.Nat.{ℕ, ◌+◌}
 use native.Mathlib.Nat.{add_assoc}
 use native.Mathlib.Omega.{arith}
+use Rattle.std.proofs.lemmas.Grind.{common_steps}
 use Rattle.calendar.specs.Answers.{date_number, sum_of}
 use Rattle.calendar.specs.Laws.{Laws}
 use Rattle.calendar.proofs.Walk.{date_of_count, after-sum}
-use Rattle.calendar.proofs.Counts.{last-count, count_within, count_of_date, made_is_date, sum_is_date, count_of_sum, count-grows, date-grows}
-use Rattle.calendar.proofs.Answers.{date_tells, refused_tells, sum-none, sum_beyond}
+use Rattle.calendar.proofs.Counts.{last_count, count_within, count_of_date, made_is_date, sum_is_date, count_of_sum, count-grows, date-grows}
+use Rattle.calendar.proofs.Answers.{date_tells}
 
 sum_of_sum : (x y m n : ℕ) → sum_of x m ≡ (0, y) → sum_of y n ≡ sum_of x (m + n)
 unfolding sum_of
@@ -23,13 +23,13 @@ sum_of_sum x y m n e =
     )
 
 beyond_stays : (x m n : ℕ) → sum_of x m ≡ (date_number, 0) → sum_of x (m + n) ≡ (date_number, 0)
-beyond_stays x m n e =
-    ⊎_elim (λ f. sum-none x (m + n) f) (λ h. sum_beyond x (m + n) (omega arith)) (refused_tells x m (sym e))
+unfolding sum_of
+beyond_stays x m n e = grind (arith, common_steps)
 
 pub laws : Laws
 laws =
     record {
-      last-count = last-count;
+      last-count = last_count;
       count-within = count_within;
       date_of_count = date_of_count;
       count_of_date = count_of_date;

@@ -2,11 +2,12 @@
 use mathlib.Core.Path.{◌≡◌, refl, ap}
 use mathlib.Core.Bool.{Bool, true, false}
 use Prim.Native.Nat.{ℕ, suc, ◌+◌, ◌-◌, ◌*◌, ◌/◌, ◌<◌, ◌≤◌}
+use native.Mathlib.Numerals.{add-one}
 use native.Mathlib.Omega.{arith}
 use borrow.Author.Tests.{leb-true, eqb-true}
 use lib.Dec.{leb, eqb}
 use lib.ListN.{get_or, take}
-use Rattle.general_laws.specs.Sums.{total}
+use Rattle.std.specs.List.{sum}
 use Rattle.general_laws.proofs.Every.{every_below, at_each}
 use Rattle.calendar.specs.Calendar.{is_leap, month_lengths, days_in, days_of_years, days_of_months}
 
@@ -28,31 +29,31 @@ pub months-suc : (y k : ℕ) → k < 12 → days_of_months y (suc k) ≡ days_of
 months-suc y k h =
     eqb-true _ _
     (in_every_year 12
-    (λ leap i. eqb (total (take (suc i) (month_lengths leap))) (total (take i (month_lengths leap)) + get_or (month_lengths leap) (suc i - 1) 0))
+    (λ leap i. eqb (sum (take (suc i) (month_lengths leap))) (sum (take i (month_lengths leap)) + get_or (month_lengths leap) (suc i - 1) 0))
     refl refl (is_leap y) k h)
 
 pub months_most : (y k : ℕ) → k < 13 → days_of_months y k ≤ 31 * k
 months_most y k h =
-    leb-true _ _ (in_every_year 13 (λ leap i. leb (total (take i (month_lengths leap))) (31 * i)) refl refl (is_leap y) k h)
+    leb-true _ _ (in_every_year 13 (λ leap i. leb (sum (take i (month_lengths leap))) (31 * i)) refl refl (is_leap y) k h)
 
 pub months_least : (y k : ℕ) → k < 12 → 31 * k ≤ days_of_months y (suc k)
 months_least y k h =
-    leb-true _ _ (in_every_year 12 (λ leap i. leb (31 * i) (total (take (suc i) (month_lengths leap)))) refl refl (is_leap y) k h)
+    leb-true _ _ (in_every_year 12 (λ leap i. leb (31 * i) (sum (take (suc i) (month_lengths leap)))) refl refl (is_leap y) k h)
 
 pub months_grow : (y m : ℕ) → 1 ≤ m → m ≤ 12 → days_of_months y (m - 1) ≤ days_of_months y m
 months_grow y m l h =
     leb-true _ _
-    (in_every_year 13 (λ leap i. leb (total (take (i - 1) (month_lengths leap))) (total (take i (month_lengths leap)))) refl refl (is_leap y) m (omega arith))
+    (in_every_year 13 (λ leap i. leb (sum (take (i - 1) (month_lengths leap))) (sum (take i (month_lengths leap)))) refl refl (is_leap y) m (omega arith))
 
 pub years_formula : (k : ℕ) → k < 201 → days_of_years k ≡ 365 * k + (k + 3) / 4 - (k + 99) / 100 + (k + 399) / 400
 unfolding days_of_years
 years_formula k h =
     eqb-true _ _ (at_each 201 (λ i. eqb (days_of_years i) (365 * i + (i + 3) / 4 - (i + 99) / 100 + (i + 399) / 400)) refl k h)
 
-whole-year : (leap : Bool) → total (month_lengths leap) ≡ total (take 12 (month_lengths leap))
+whole-year : (leap : Bool) → sum (month_lengths leap) ≡ sum (take 12 (month_lengths leap))
 whole-year true = refl
 whole-year false = refl
 
-pub years-suc : (k : ℕ) → days_of_years (suc k) ≡ days_of_years k + days_of_months (2000 + k) 12
+pub years_more : (k : ℕ) → days_of_years (k + 1) ≡ days_of_years k + days_of_months (2000 + k) 12
 unfolding days_of_years
-years-suc k = ap (λ (n : ℕ). days_of_years k + n) (whole-year (is_leap (2000 + k)))
+years_more k = rw add-one (ap (λ (n : ℕ). days_of_years k + n) (whole-year (is_leap (2000 + k))))

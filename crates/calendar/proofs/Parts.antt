@@ -1,12 +1,13 @@
 -- A number's year, month and day, and when they make a date.
 use mathlib.Core.Path.{◌≡◌, refl, subst}
-use mathlib.Core.Bool.{true, and-eq-true_iff}
+use mathlib.Core.Bool.{true}
 use Prim.Native.Nat.{ℕ, ◌+◌, ◌≤◌, ◌<◌}
 use native.Mathlib.Omega.{arith}
-use borrow.Author.Tests.{leb-true, le-leb, ltb-true}
-use lib.Dec.{leb, ltb}
+use Rattle.std.proofs.lemmas.Bool.Decides.{nat_tests}
+use borrow.Author.Tests.{ltb-true}
+use lib.Dec.{ltb}
 use Rattle.general_laws.proofs.Choice.{choice}
-use Rattle.calendar.specs.Calendar.{first_date, last_date, year_of, month_of, day_of, ymd, days_in, is_date, following, next}
+use Rattle.calendar.specs.Calendar.{last_date, year_of, month_of, day_of, ymd, days_in, is_date, following, next}
 use Rattle.calendar.proofs.Lengths.{month_least, month-most}
 
 -- what holds of three parts holds of those of their number
@@ -39,18 +40,13 @@ pub record Parts (y m d : ℕ) : Type 0 where
 
 pub parts_of : (x : ℕ) → is_date x ≡ true → Parts (year_of x) (month_of x) (day_of x)
 parts_of x e =
-    let low = (and-eq-true_iff (leb first_date x) _).0 e in
-    let high = (and-eq-true_iff (leb x last_date) _).0 low.1 in
-    let month = (and-eq-true_iff (leb 1 (month_of x)) _).0 high.1 in
-    let twelve = (and-eq-true_iff (leb (month_of x) 12) _).0 month.1 in
-    let day = (and-eq-true_iff (leb 1 (day_of x)) _).0 twelve.1 in
     record {
-      year-low = omega (arith, leb-true first_date x low.0);
-      year-high = omega (arith, leb-true x last_date high.0);
-      month-low = leb-true _ _ month.0;
-      month-high = leb-true _ _ twelve.0;
-      day-low = leb-true _ _ day.0;
-      day-high = leb-true _ _ day.1;
+      year-low = grind (arith, nat_tests);
+      year-high = grind (arith, nat_tests);
+      month-low = grind (arith, nat_tests);
+      month-high = grind (arith, nat_tests);
+      day-low = grind (arith, nat_tests);
+      day-high = grind (arith, nat_tests);
     }
 
 pub day-most : (y m d : ℕ) → Parts y m d → d ≤ 31
@@ -58,15 +54,7 @@ day-most y m d p = omega (arith, p.day-high, month-most y m p.month-low p.month-
 
 is-date : (x : ℕ) → Parts (year_of x) (month_of x) (day_of x) → is_date x ≡ true
 is-date x p =
-    let d = day-most (year_of x) (month_of x) (day_of x) p in
-    simp (
-      le-leb first_date x (omega (arith, p.year-low, p.month-low, p.day-low)),
-      le-leb x last_date (omega (arith, p.year-high, p.month-high)),
-      le-leb _ _ p.month-low,
-      le-leb _ _ p.month-high,
-      le-leb _ _ p.day-low,
-      le-leb _ _ p.day-high,
-    )
+    let d = day-most (year_of x) (month_of x) (day_of x) p in grind (arith, nat_tests)
 
 pub ymd_is_date : (y m d : ℕ) → Parts y m d → is_date (ymd y m d) ≡ true
 ymd_is_date y m d p =

@@ -8,7 +8,7 @@ use native.Mathlib.Omega.{arith}
 use borrow.Author.Tests.{lt-ltb, le-ltb}
 use lib.Dec.{ltb}
 use Rattle.calendar.specs.Calendar.{first_date, year_of, month_of, day_of, ymd, days_in, is_date, next, after, days_of_years, days_of_months, day_count}
-use Rattle.calendar.proofs.Lengths.{month_least, month-most, months-suc, years-suc}
+use Rattle.calendar.proofs.Lengths.{month_least, month-most, months-suc, years_more}
 use Rattle.calendar.proofs.Parts.{next-ymd, parts_of}
 
 -- n days after the first date is the month's first day
@@ -43,7 +43,7 @@ unfolding after days_of_years
 year-first zero = refl
 year-first (suc k) =
     let december : days_of_years (suc k) ≡ days_of_years k + days_of_months (2000 + k) 11 + days_in (2000 + k) 12 =
-    omega (arith, years-suc k, months-suc (2000 + k) 11 (omega arith)) in
+    omega (arith, rw add-one at (years_more k), months-suc (2000 + k) 11 (omega arith)) in
     ap (after first_date) december
     ∙ month-over (days_of_years k + days_of_months (2000 + k) 11) (2000 + k) 12 (omega arith) (omega arith)
     (month-first (days_of_years k) (2000 + k) 11 (omega arith) (year-first k))
@@ -73,10 +73,10 @@ date_of_count x e =
     ∙ omega arith
 
 -- a day that is found in a month of a year
-pub date-at : (n k m : ℕ) → 1 ≤ m → m ≤ 12 → days_of_years k ≤ n
+pub date_at : (n k m : ℕ) → 1 ≤ m → m ≤ 12 → days_of_years k ≤ n
     → days_of_months (2000 + k) (m - 1) ≤ n - days_of_years k → n - days_of_years k < days_of_months (2000 + k) m
     → after first_date n ≡ ymd (2000 + k) m (n - days_of_years k - days_of_months (2000 + k) (m - 1) + 1)
-date-at n k m low high a b c =
+date_at n k m low high a b c =
     let d : ℕ = n - days_of_years k - days_of_months (2000 + k) (m - 1) + 1 in
     let same : suc (m - 1) ≡ m = omega arith in
     let more = months-suc (2000 + k) (m - 1) (omega arith) in

@@ -1,6 +1,5 @@
 -- The Gregorian calendar as document 01 has it ("Dates"): "A date is the number YYYYMMDD, from 20000101 to 21991231, Gregorian."
-use Rattle.std.specs.Prelude.{Bool, true, false, cond, not, ◌&&◌, ◌||◌, List, [], ◌∷◌, ℕ, zero, suc, ◌+◌, ◌-◌, ◌*◌, ◌/◌, ◌%◌, leb, ltb, eqb, get_or, take}
-use Rattle.general_laws.specs.Sums.{total}
+use Rattle.std.specs.Prelude.{Bool, true, false, cond, not, ◌&&◌, ◌||◌, List, [], ◌∷◌, ℕ, zero, suc, ◌+◌, ◌-◌, ◌*◌, ◌/◌, ◌%◌, leb, ltb, eqb, get_or, take, sum}
 
 abbrev pub first_date : ℕ
 first_date = 20000101
@@ -56,11 +55,11 @@ after x (suc n) = next (after x n)
 -- the days of the first k years from 2000 on
 unfoldable pub days_of_years : ℕ → ℕ
 days_of_years zero = 0
-days_of_years (suc k) = days_of_years k + total (month_lengths (is_leap (2000 + k)))
+days_of_years (suc k) = days_of_years k + sum (month_lengths (is_leap (2000 + k)))
 
 -- the days of the first k months of the year y
 abbrev pub days_of_months : ℕ → ℕ → ℕ
-days_of_months y k = total (take k (month_lengths (is_leap y)))
+days_of_months y k = sum (take k (month_lengths (is_leap y)))
 
 -- a date's day count from 20000101: the years before it, the months before it in its year, the days before it in its month
 unfoldable pub day_count : ℕ → ℕ

@@ -19,7 +19,7 @@ pub fn days_before(year: u32, month: u32) -> u32
     requires { (1 ≤ month) × (month ≤ 13) }
     ensures { result ≡ days_of_months year (month - 1) }
 {
-    BEFORE[is_leap(year) as usize][(month - 1) as usize]
+    BEFORE[usize::from(is_leap(year))][(month - 1) as usize]
 }
 
 #[tactic(auto, using(crate::proofs::Lengths::months_grow))]
@@ -36,7 +36,7 @@ pub fn days_of_years(years: u32) -> u32
     requires { years ≤ 200 }
     ensures { result ≡ days_of_years years }
 {
-    365 * years + (years + 3) / 4 - (years + 99) / 100 + (years + 399) / 400
+    365 * years + years.div_ceil(4) - years.div_ceil(100) + years.div_ceil(400)
 }
 
 // The day of a date, counted from 20000101.
@@ -79,6 +79,7 @@ pub fn month_of(year: u32, day: u32) -> u32
 }
 
 // The date of a day counted from 20000101.
+#[tactic(auto, using(crate::proofs::Lengths::years_more, crate::proofs::Walk::date_at))]
 pub fn date_of(day: u32) -> u32
     requires { day < 73049 }
     ensures { result ≡ after first_date day }

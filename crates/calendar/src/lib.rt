@@ -39,12 +39,9 @@ pub fn is_date(x: u32) -> bool
 {
     let month = x / 100 % 100;
     let day = x % 100;
-    FIRST_DATE <= x
-        && x <= LAST_DATE
-        && 1 <= month
-        && month <= 12
-        && 1 <= day
-        && day <= days_in(x / 10000, month)
+    (FIRST_DATE..=LAST_DATE).contains(&x)
+        && (1..=12).contains(&month)
+        && (1..=days_in(x / 10000, month)).contains(&day)
 }
 
 // A date's day, counted from 20000101.
@@ -59,6 +56,7 @@ pub fn day_count(date: u32) -> Result<u32, NotADate>
 }
 
 // The date that is some days after another.
+#[tactic(auto, using(crate::proofs::Counts::count_within, crate::proofs::Counts::from_first, crate::proofs::Counts::last_count), unfolding(crate::specs::Answers::count_of, crate::specs::Answers::sum_of))]
 pub fn plus_days(date: u32, days: u32) -> Result<u32, NotADate>
     ensures { date_stated result ≡ sum_of date days }
 {
@@ -70,15 +68,17 @@ pub fn plus_days(date: u32, days: u32) -> Result<u32, NotADate>
 }
 
 // The days from one date to another, negative where the other is earlier.
+#[tactic(auto, unfolding(crate::specs::Answers::count_of, crate::specs::Answers::between_of))]
 pub fn days_between(from: u32, to: u32) -> Result<i64, NotADate>
     ensures { between_stated result ≡ between_of from to }
 {
     let first = day_count(from)?;
     let last = day_count(to)?;
-    Ok(last as i64 - first as i64)
+    Ok(i64::from(last) - i64::from(first))
 }
 
 // What callers may rely on of dates and day counts, and the worked examples of document 01 that speak of dates alone. It does nothing.
+#[tactic(auto, using(crate::proofs::Laws::laws, crate::proofs::Examples::examples))]
 pub fn theorems()
     ensures { Laws × Examples }
 {}

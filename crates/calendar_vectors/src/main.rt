@@ -14,13 +14,10 @@ const INPUT: usize = 65536;
 fn with_number(digest: u64, x: u32) -> u64 {
     let is_date = calendar::is_date(x);
     let day = calendar::day_count(x);
-    let counted = match day {
-        Ok(day) => {
-            let date = calendar::plus_days(20000101, day).unwrap_or(0);
-            mixed(mixed(mixed(digest, x.into()), day.into()), date.into())
-        }
-        Err(_) => digest,
-    };
+    let counted = day.map_or(digest, |day| {
+        let date = calendar::plus_days(20000101, day).unwrap_or(0);
+        mixed(mixed(mixed(digest, x.into()), day.into()), date.into())
+    });
     if day.is_ok() == is_date {
         counted
     } else {
@@ -46,7 +43,7 @@ fn put_case(rt: &impl Print, cases: &mut Cases) {
     let date = cases.number_u32();
     let days = cases.number_u32();
     let to = cases.number_u32();
-    let is_date = calendar::is_date(date) as u8;
+    let is_date = u8::from(calendar::is_date(date));
     let day = calendar::day_count(date);
     let sum = calendar::plus_days(date, days);
     let between = calendar::days_between(date, to);

@@ -1,8 +1,8 @@
 // Runs the calls of the input on a book, and prints the answer to each: its number, and its values.
 #![tactic(auto)]
 
-use answers::Numbered;
-use book::{Cents, Day, Parts, Placed, ReachedBook, Revised, Taken};
+use answers::{Numbered, number_of};
+use book::{Cents, Day, Opening, Parts, Placed, ReachedBook};
 use book_cases::{put_position, put_totals};
 use cases::Cases;
 use std::io;
@@ -15,14 +15,14 @@ const LISTED: usize = 70;
 
 // The numbers of a list: it says first how many they are.
 fn read_list<'a>(cases: &mut Cases, numbers: &'a mut [u32; LISTED]) -> &'a [u32] {
-    let count = LISTED.min(cases.number() as usize);
+    let count = cases.count(LISTED);
     for number in &mut numbers[..count] {
         *number = cases.number_u32();
     }
     &numbers[..count]
 }
 
-fn open_book(rt: &impl Print, book: ReachedBook, cases: &mut Cases) -> ReachedBook {
+fn open_book(rt: &impl Print, book: &mut ReachedBook, cases: &mut Cases) {
     let first = cases.number_u32();
     let term = Day(cases.number_u32());
     let annual = cases.number();
@@ -31,60 +31,50 @@ fn open_book(rt: &impl Print, book: ReachedBook, cases: &mut Cases) -> ReachedBo
     let holders = read_list(cases, &mut holders);
     let mut shares = [0u32; LISTED];
     let shares = read_list(cases, &mut shares);
-    let opened = book::open_book(book, first, term, annual, cents, holders, shares);
-    let _ = match opened.answer {
-        Ok(()) => println!(rt; "0"),
-        Err(refusal) => println!(rt; "{}", refusal.number()),
+    let opening = Opening {
+        first,
+        term,
+        annual,
+        cents,
+        holders,
+        shares,
     };
-    opened.book
+    let opened = book::open_book_in_place(book, opening);
+    let _ = println!(rt; "{}", number_of(opened));
 }
 
-fn advance(rt: &impl Print, book: ReachedBook, cases: &mut Cases) -> ReachedBook {
+fn advance(rt: &impl Print, book: &mut ReachedBook, cases: &mut Cases) {
     let date = cases.number_u32();
-    let advanced = book::advance(book, date);
-    let _ = match advanced.answer {
-        Ok(days) => println!(rt; "0 {}", days.0),
-        Err(refusal) => println!(rt; "{} 0", refusal.number()),
-    };
-    advanced.book
+    let advanced = book::advance_in_place(book, date);
+    let days = advanced.map_or(0, |days| days.0);
+    let _ = println!(rt; "{} {days}", number_of(advanced));
 }
 
-fn transfer(rt: &impl Print, book: ReachedBook, cases: &mut Cases) -> ReachedBook {
+fn transfer(rt: &impl Print, book: &mut ReachedBook, cases: &mut Cases) {
     let cedent = cases.number_u32();
     let assignee = cases.number_u32();
     let parts = Parts(cases.number());
-    let transferred = book::transfer(book, cedent, assignee, parts);
-    let _ = match transferred.answer {
-        Ok(parts) => println!(rt; "0 {}", parts.0),
-        Err(refusal) => println!(rt; "{} 0", refusal.number()),
-    };
-    transferred.book
+    let transferred = book::transfer_in_place(book, cedent, assignee, parts);
+    let left = transferred.map_or(0, |parts| parts.0);
+    let _ = println!(rt; "{} {left}", number_of(transferred));
 }
 
-fn settle(rt: &impl Print, book: ReachedBook, cases: &mut Cases) -> ReachedBook {
+fn settle(rt: &impl Print, book: &mut ReachedBook, cases: &mut Cases) {
     let cents = Cents(cases.number());
-    let settled = book::settle(book, cents);
-    let _ = match settled.answer {
-        Ok(
-            Taken {
-                interest,
-                principal,
-            },
-        ) => println!(rt; "0 {} {}", interest.0, principal.0),
-        Err(refusal) => println!(rt; "{} 0 0", refusal.number()),
-    };
-    settled.book
+    let settled = book::settle_in_place(book, cents);
+    let (interest, principal) = settled.map_or(
+        (0, 0),
+        |taken| (taken.interest.0, taken.principal.0),
+    );
+    let _ = println!(rt; "{} {interest} {principal}", number_of(settled));
 }
 
-fn rate(rt: &impl Print, book: ReachedBook, cases: &mut Cases) -> ReachedBook {
+fn rate(rt: &impl Print, book: &mut ReachedBook, cases: &mut Cases) {
     let date = cases.number_u32();
     let annual = cases.number();
-    let rated = book::rate(book, date, annual);
-    let _ = match rated.answer {
-        Ok(Revised { outstanding, due }) => println!(rt; "0 {} {}", outstanding.0, due.0),
-        Err(refusal) => println!(rt; "{} 0 0", refusal.number()),
-    };
-    rated.book
+    let rated = book::rate_in_place(book, date, annual);
+    let (outstanding, due) = rated.map_or((0, 0), |revised| (revised.outstanding.0, revised.due.0));
+    let _ = println!(rt; "{} {outstanding} {due}", number_of(rated));
 }
 
 // Reads the position of a holder.
@@ -113,23 +103,22 @@ fn read_place(rt: &impl Print, book: &ReachedBook, place: usize) {
     }
 }
 
-// The next call, by the number that the input has for it: told apart once, here, so no enum stands between. It answers the book after it.
-fn call(rt: &impl Print, book: ReachedBook, cases: &mut Cases) -> ReachedBook {
+// The next call, by the number that the input has for it: told apart once, here, so no enum stands between.
+fn call(rt: &impl Print, book: &mut ReachedBook, cases: &mut Cases) {
     match cases.number() {
         0 => {
             let _ = println!(rt; "0");
-            return ReachedBook::empty();
+            *book = ReachedBook::empty();
         }
-        1 => return open_book(rt, book, cases),
-        2 => return advance(rt, book, cases),
-        3 => return transfer(rt, book, cases),
-        4 => return settle(rt, book, cases),
-        5 => read_holder(rt, &book, cases.number_u32()),
-        6 => read_place(rt, &book, cases.number() as usize),
-        8 => return rate(rt, book, cases),
-        _ => put_totals(rt, &book),
+        1 => open_book(rt, book, cases),
+        2 => advance(rt, book, cases),
+        3 => transfer(rt, book, cases),
+        4 => settle(rt, book, cases),
+        5 => read_holder(rt, book, cases.number_u32()),
+        6 => read_place(rt, book, cases.number() as usize),
+        8 => rate(rt, book, cases),
+        _ => put_totals(rt, book),
     }
-    book
 }
 
 fn main(rt: HostRuntime) -> io::Result<()> {
@@ -137,7 +126,7 @@ fn main(rt: HostRuntime) -> io::Result<()> {
     let mut cases = Cases::read(&mut rt.stdin(), &mut buffer)?;
     let mut book = ReachedBook::empty();
     for _ in 0..cases.number() {
-        book = call(&rt, book, &mut cases);
+        call(&rt, &mut book, &mut cases);
     }
     Ok(())
 }

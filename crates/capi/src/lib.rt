@@ -1,5 +1,5 @@
-// What C programs call, as functions of Rattle: one file loaded, its statement, one line read or written, a daily rate, and a date plus days. Each
-// answers the number of document 01's table, 0 for accepted. The crate `capi_c` exports each under its name.
+// What C programs call, from a static library: one file loaded, its statement, one line read or written, a daily rate, and a date plus days. Each
+// answers the number of document 01's table, 0 for accepted.
 #![tactic(auto)]
 
 ghost use Rattle.std.specs.Prelude.{◌≡◌};
@@ -17,7 +17,9 @@ use book::ReachedBook;
 use line::Fields;
 
 // Loads a file on the empty book: the refused line's number, where it starts and ends in the file, and the count of the lines before E.
-pub fn taborumbra_check(
+#[tactic(auto, unfolding(file_model::specs::Load::part_start, file_model::specs::Load::part_end))]
+#[unsafe(no_mangle)]
+pub extern "C" fn taborumbra_check(
     file: &[u8],
     line: &mut usize,
     start: &mut usize,
@@ -41,7 +43,8 @@ pub fn taborumbra_check(
 
 // The statement of a file at a buffer's start, and its length; a refused file's is its X line, answered with 0 too. A buffer under
 // `report::BYTES` is answered with 21 and left as it was.
-pub fn taborumbra_statement(file: &[u8], out: &mut [u8], length: &mut usize) -> u32
+#[unsafe(no_mangle)]
+pub extern "C" fn taborumbra_statement(file: &[u8], out: &mut [u8], length: &mut usize) -> u32
     ensures value { result ≡ (report_of file.now out.old).0.0 }
     ensures length_after { length.new ≡ (report_of file.now out.old).0.1 }
     ensures out_after { out.new ≡ (report_of file.now out.old).1 }
@@ -52,7 +55,8 @@ pub fn taborumbra_statement(file: &[u8], out: &mut [u8], length: &mut usize) -> 
 }
 
 // A line's fields, 0 in each for a malformed line.
-pub fn taborumbra_read_line(
+#[unsafe(no_mangle)]
+pub extern "C" fn taborumbra_read_line(
     line: &[u8],
     letter: &mut u8,
     date: &mut u32,
@@ -84,7 +88,8 @@ pub fn taborumbra_read_line(
 }
 
 // The line for given fields in a buffer's first 43 bytes. A refusal leaves the buffer as it was.
-pub fn taborumbra_write_line(
+#[unsafe(no_mangle)]
+pub extern "C" fn taborumbra_write_line(
     letter: u8,
     date: u32,
     first: u32,
@@ -109,7 +114,8 @@ pub fn taborumbra_write_line(
 }
 
 // The daily rate of an annual rate, 0 for a refused one.
-pub fn taborumbra_daily_rate(annual: u64, daily: &mut u64) -> u32
+#[unsafe(no_mangle)]
+pub extern "C" fn taborumbra_daily_rate(annual: u64, daily: &mut u64) -> u32
     ensures value { result ≡ (rate_of annual).0 }
     ensures daily_after { daily.new ≡ (rate_of annual).1 }
 {
@@ -119,7 +125,8 @@ pub fn taborumbra_daily_rate(annual: u64, daily: &mut u64) -> u32
 }
 
 // A date plus days, 0 for a refused sum.
-pub fn taborumbra_plus_days(date: u32, days: u32, sum: &mut u32) -> u32
+#[unsafe(no_mangle)]
+pub extern "C" fn taborumbra_plus_days(date: u32, days: u32, sum: &mut u32) -> u32
     ensures value { result ≡ (sum_of date days).0 }
     ensures sum_after { sum.new ≡ (sum_of date days).1 }
 {

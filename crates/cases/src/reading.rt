@@ -1,5 +1,5 @@
 // Decimal numbers in a text, and the bytes of a case, whose number stands before them.
-ghost use Rattle.std.specs.Prelude.{◌≡◌, ◌+◌, ◌-◌, ◌*◌, ◌%◌, min, ◌≤◌, ◌<◌, length, drop, IfOk};
+ghost use Rattle.std.specs.Prelude.{◌≡◌, ◌+◌, ◌-◌, ◌*◌, ◌%◌, min, ◌≤◌, ◌<◌, length, IfOk};
 ghost use Rattle.std.specs.Io.KnownBytes.{Consumes, IsAtEnd};
 ghost use Rattle.std.specs.List.{fold};
 ghost use Rattle.cases.specs.Cases.{greatest, skipped, digits, number_at, bytes_at, bytes_between};
@@ -13,13 +13,6 @@ use std::io::Read;
 pub struct Cases<'a> {
     pub text: &'a [u8],
     pub at: usize,
-}
-
-// What a text has from a position on.
-fn from(text: &[u8], at: usize) -> &[u8]
-    ensures { result.now ≡ drop at text.now }
-{
-    text.get(at..).unwrap_or(&[])
 }
 
 // How many bytes stand before the first digit.
@@ -40,7 +33,7 @@ fn digits(text: &[u8]) -> usize
     text.iter().take_while(|byte| byte.is_ascii_digit()).count()
 }
 
-// The number that a text's bytes write, if each is a digit: the greatest u64 where it is larger.
+// The number that a text's bytes write, if each is a digit: the greatest u64 where it is larger (std's parse refuses such a number).
 fn decimal(digits: &[u8]) -> u64
     ensures { result ≡ min (fold (λ v b. v * 10 + (b - 48)) 0 digits.now) greatest }
 {
@@ -59,19 +52,23 @@ impl<'a> Cases<'a> {
         ensures bytes { IfOk result (λ cases. Consumes (R.remaining input.old) (R.remaining input.new) cases.text.now) }
         ensures end { IfOk result (λ cases. length cases.text.now < length buffer.old → IsAtEnd (R.remaining input.new)) }
     {
-        let (text, outcome) = read_full(input, buffer);
+        let (count, outcome) = read_full(input, buffer);
         outcome?;
-        Ok(Cases { text, at: 0 })
+        Ok(Cases {
+            text: &buffer[..count],
+            at: 0,
+        })
     }
 
     // The first number from here on: the greatest u64 where it is larger.
+    #[tactic(auto, using(crate::proofs::Steps::number_steps))]
     pub fn number(&mut self) -> u64
         ensures value { (result, self.new.at) ≡ number_at self.old.text.now self.old.at }
         ensures text { self.new.text ≡ self.old.text }
     {
-        let rest = from(self.text, self.at);
+        let rest = self.text.get(self.at..).unwrap_or(&[]);
         let skipped = skipped(rest);
-        let number = from(rest, skipped);
+        let number = &rest[skipped..];
         let digits = digits(number);
         self.at += skipped + digits;
         decimal(&number[..digits])
@@ -86,7 +83,17 @@ impl<'a> Cases<'a> {
         (self.number() % 4294967296) as u32
     }
 
+    // The number, at most `most`.
+    pub fn count(&mut self, most: usize) -> usize
+        ensures value { result ≡ min most (number_at self.old.text.now self.old.at).0 }
+        ensures at { self.new.at ≡ (number_at self.old.text.now self.old.at).1 }
+        ensures text { self.new.text ≡ self.old.text }
+    {
+        most.min(self.number() as usize)
+    }
+
     // The bytes of a case: the first number from here on says how many follow the byte behind it. The text's end cuts them off.
+    #[tactic(auto, unfolding(crate::specs::Cases::bytes_at))]
     pub fn bytes(&mut self) -> &'a [u8]
         ensures value { result.now ≡ bytes_between self.old.text.now (bytes_at self.old.text.now self.old.at) }
         ensures at { self.new.at ≡ (bytes_at self.old.text.now self.old.at).1 }

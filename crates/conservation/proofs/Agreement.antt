@@ -6,7 +6,7 @@ use mathlib.Core.Bool.{true, false}
 use mathlib.Core.List.{map, map-map}
 use mathlib.Core.Option.{none, some}
 use Rattle.general_laws.specs.Members.{distinct, among}
-use Rattle.general_laws.specs.Sums.{total}
+use Rattle.std.specs.List.{sum}
 use Rattle.book_model.specs.declared.Book.{Book}
 use Rattle.book_model.specs.declared.Position.{Position}
 use Rattle.book_model.specs.Book.{held, settlements_of}
@@ -36,7 +36,7 @@ pub record Agrees (b : Book) (t : Tally) : Type 0 where
   -- today's shares last
   pub lasting : (h d : ℕ) → t.today ≤ d → t.share h d ≡ share_today t h
   -- on every day the shares are the whole right
-  pub whole : (d : ℕ) → total (map (λ h. t.share h d) t.holders) ≡ 1000000
+  pub whole : (d : ℕ) → sum (map (λ h. t.share h d) t.holders) ≡ 1000000
 
 module _ (b : Book) (t : Tally) (agrees : Agrees b t) where
   -- Demand 3 on the holders
@@ -50,8 +50,8 @@ module _ (b : Book) (t : Tally) (agrees : Agrees b t) where
   pub shares-same : shares (held b) ≡ map (share_today t) t.holders
   shares-same = column (λ p. p.share.0)
 
-  pub shares_whole : total (shares (held b)) ≡ 1000000
-  shares_whole = ap total shares-same ∙ agrees.whole t.today
+  pub shares_whole : sum (shares (held b)) ≡ 1000000
+  shares_whole = ap sum shares-same ∙ agrees.whole t.today
 
   pub unit_days_same : unit_days_column (held b) ≡ map (unit_days_of t) t.holders
   unit_days_same = column (λ p. p.unit_days)
@@ -73,9 +73,8 @@ module _ (b : Book) (t : Tally) (agrees : Agrees b t) where
         ∙ none_after_today 0 (settlements_of b) b.today.0 d known.timely (omega (arith, agrees.today))
 
     -- nor on day 0, so every settlement has unit-days to divide by
-    pub settled-weights : (d m : ℕ) → t.paid d ≡ some m → 0 < total (map (weight t d) t.holders)
+    pub settled-weights : (d m : ℕ) → t.paid d ≡ some m → 0 < sum (map (weight t d) t.holders)
     settled-weights zero m e =
         let f : t.paid 0 ≡ none = agrees.settlements 0 ∙ none_yet 0 (settlements_of b) b.today.0 0 known.timely (omega arith) in
-        let z : ◌≡◌ {A = ℕ} 0 1 = cc in
-        absurd (omega arith)
+        cc
     settled-weights (suc d) m e = weights-some t (suc d) (omega arith) agrees.whole

@@ -9,7 +9,7 @@ use borrow.Author.Tests.{eqb-true, eqb-false, eq-eqb, ne_eqb, lt-ltb, le-ltb}
 use lib.Dec.{eqb, ltb}
 use lib.ListN.{length, length-map}
 use Rattle.general_laws.specs.Members.{distinct, among}
-use Rattle.general_laws.proofs.Choice.{true_not_false, neither_true}
+use Rattle.std.proofs.lemmas.Bool.{or_parts}
 use Rattle.general_laws.proofs.Members.{member_other, first-apart, map_same}
 use Rattle.book_model.specs.declared.Position.{Position}
 use Rattle.book_model.specs.Book.{fresh}
@@ -45,7 +45,7 @@ module _ (p : ℕ → Position) (own : (h : ℕ) → (p h).holder ≡ h) where
       go false away = le-ltb (tally.place x hs) (length hs) (omega (arith, place_without x hs away))
 
   pub share-is : (x : ℕ) (hs : List ℕ) → among x hs ≡ true → share_of x (map p hs) ≡ (p x).share.0
-  share-is x [] m = true_not_false false m refl
+  share-is x [] m = cc
   share-is x (h ∷ hs) m = rw (own h) (go (eqb h x) refl (share-is x hs) m)
     where
       go : (t : Bool) → eqb h x ≡ t → (among x hs ≡ true → share_of x (map p hs) ≡ (p x).share.0) → t || among x hs ≡ true
@@ -105,4 +105,4 @@ pub listed-none : (hs ss : List ℕ) (h : ℕ) → among h hs ≡ false → list
 listed-none [] ss h away = refl
 listed-none (x ∷ hs) [] h away = refl
 listed-none (x ∷ hs) (s ∷ ss) h away =
-    let n = neither_true (eqb x h) (among h hs) away in rw n.0 (listed-none hs ss h n.1)
+    let n = or_parts (eqb x h) (among h hs) away in rw n.0 (listed-none hs ss h n.1)

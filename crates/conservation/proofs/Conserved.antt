@@ -4,46 +4,33 @@ use native.Mathlib.Omega.{arith}
 use mathlib.Core.Path.{◌≡◌}
 use mathlib.Core.Bool.{cond}
 use mathlib.Core.List.{List, [], ◌∷◌}
-use lib.Dec.{eqb}
-use Rattle.general_laws.specs.Sums.{total}
+use Rattle.std.specs.List.{sum}
 use Rattle.book_model.specs.declared.Book.{Book}
-use Rattle.book_model.specs.declared.Refusal.{Refusal}
 use Rattle.book_model.specs.Book.{held}
 use Rattle.book_model.specs.Call.{Opening, Call, Advance, Rate, Transfer, Settle}
 use Rattle.book_model.specs.Calls.{book_after, accepts, run}
-use Rattle.book_model.specs.Outcome.{Outcome, refusal_number}
 use Rattle.book_model.specs.Positions.{receipts}
 use Rattle.book_model.specs.Reached.{Reached, empty, opens}
 use Rattle.book_model.specs.Invariant.{Sound}
-use Rattle.book_model.proofs.Callers.{order_of, account_after, advance_cases, rate_cases, transfer_cases, settle_cases, call-reached, sound, standing, advance_step, transfer_step, settle_step}
+use Rattle.book_model.proofs.Callers.{order_of, account_after, call-reached, sound, standing, advance_step, transfer_step, settle_step}
 use Rattle.conservation.specs.Conservation.{opening_of, feed_of, accepted_cents, Conservation}
 use Rattle.conservation.specs.Tally.{Tally, start, day_of_date, entered, fed_with}
 use Rattle.conservation.proofs.Agreement.{Agrees, holders-same, shares-same, shares_whole, receipts-same}
-use Rattle.conservation.proofs.CallAgrees.{not_accepted, agrees_after, receipts-after}
+use Rattle.conservation.proofs.CallAgrees.{agrees_after, receipts-after}
+use Rattle.conservation.proofs.CallCases.{Right, changed, accepted_cases}
 use Rattle.conservation.proofs.MoneyConserved.{money_conserved}
 use Rattle.conservation.proofs.OpenAgrees.{opened_book, opened_step, opening-is, agrees-opened, receipts-opened}
 use Rattle.conservation.proofs.SameTerms.{SameTerms, terms-opened, terms-advanced, terms-transferred, terms-settled, terms-rated}
 
 module _ (o : Opening) (b : Book) (h : Sound b) (t : Tally) (was : SameTerms o b t) where
-  abbrev StillSame : {A : Type 0} → Call → Outcome A → Type 0
-  StillSame k r = SameTerms o r.book (cond (eqb r.answer.number 0) (entered o t k) t)
-
-  refused : (k : Call) (r : Refusal) → SameTerms o b (cond (eqb (refusal_number r) 0) (entered o t k) t)
-  refused k r = rw (not_accepted r) was
+  terms-changed : (k : Call) → Right b k → SameTerms o (changed b k) (entered o t k)
+  terms-changed (Advance date) right = terms-advanced o b _ t was (advance_step b h date right).same (day_of_date o date)
+  terms-changed (Rate date annual) _ = terms-rated o b t was date annual (account_after b (order_of b date annual))
+  terms-changed (Transfer c a n) _ = terms-transferred o b _ t was (transfer_step b h c a n).same c a n
+  terms-changed (Settle m) right = terms-settled o b _ t was (settle_step b h m right).same m
 
   terms-after : (k : Call) → SameTerms o (book_after b k) (cond (accepts b k) (entered o t k) t)
-  terms-after (Advance date) =
-      advance_cases b date (StillSame (Advance date)) (refused (Advance date))
-      (λ right. terms-advanced o b _ t was (advance_step b h date right).same (day_of_date o date))
-  terms-after (Rate date annual) =
-      rate_cases b date annual (StillSame (Rate date annual)) (refused (Rate date annual))
-      (λ _. terms-rated o b t was date annual (account_after b (order_of b date annual)))
-  terms-after (Transfer c a n) =
-      transfer_cases b c a (record { 0 = n }) (StillSame (Transfer c a n)) (refused (Transfer c a n))
-      (λ _. terms-transferred o b _ t was (transfer_step b h c a n).same c a n)
-  terms-after (Settle m) =
-      settle_cases b (record { 0 = m }) (StillSame (Settle m)) (refused (Settle m))
-      (λ right. terms-settled o b _ t was (settle_step b h m right).same m)
+  terms-after k = accepted_cases b k (λ yes c. SameTerms o c (cond yes (entered o t k) t)) was (terms-changed k)
 
 module _ (o : Opening) where
   -- the invariant: a reached book whose terms and holders are the tally's
@@ -66,7 +53,7 @@ module _ (o : Opening) where
   joint_run (k ∷ ks) b t j = joint_run ks (book_after b k) _ (joint_after b t j k)
 
   receipts-run : (ks : List Call) (b : Book) (t : Tally) → Joint b t
-      → total (receipts (held (run b ks))) ≡ total (receipts (held b)) + accepted_cents (feed_of b ks)
+      → sum (receipts (held (run b ks))) ≡ sum (receipts (held b)) + accepted_cents (feed_of b ks)
   unfolding run feed_of accepted_cents
   receipts-run [] b t j = omega arith
   receipts-run (k ∷ ks) b t j =

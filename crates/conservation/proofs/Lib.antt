@@ -13,6 +13,7 @@ mod AdvanceAgrees
 mod TransferAgrees
 mod SettleAgrees
 mod RateAgrees
+mod CallCases
 mod CallAgrees
 mod Conserved
 mod ReachedBooks

@@ -8,16 +8,17 @@ use borrow.Author.Tests.{eq-eqb}
 use lib.Dec.{eqb}
 use lib.ListN.{length}
 use Rattle.general_laws.specs.Members.{distinct, among}
-use Rattle.general_laws.specs.Sums.{total}
-use Rattle.general_laws.proofs.Choice.{choice, true_not_false, neither_true}
+use Rattle.std.specs.List.{sum}
+use Rattle.std.proofs.lemmas.Bool.{or_parts}
+use Rattle.general_laws.proofs.Choice.{choice}
 use Rattle.general_laws.proofs.Members.{among-joined, distinct-last}
-use Rattle.general_laws.proofs.Totals.{total-append}
+use Rattle.std.proofs.lemmas.List.Sums.{sum_by_push}
 use Rattle.conservation.specs.Tally.{with_holder, place}
 
 -- Places
 
 pub place-within : (x : ℕ) (hs : List ℕ) → among x hs ≡ true → place x hs < length hs
-place-within x [] m = true_not_false false m refl
+place-within x [] m = cc
 place-within x (y ∷ hs) m = go (eqb y x) (place-within x hs) m
   where
     go : (t : Bool) → (among x hs ≡ true → place x hs < length hs) → t || among x hs ≡ true → cond t 0 (suc (place x hs)) < suc (length hs)
@@ -26,14 +27,14 @@ place-within x (y ∷ hs) m = go (eqb y x) (place-within x hs) m
 
 pub place_without : (x : ℕ) (hs : List ℕ) → among x hs ≡ false → place x hs ≡ length hs
 place_without x [] away = refl
-place_without x (y ∷ hs) away = let n = neither_true (eqb y x) (among x hs) away in rw (n.0, place_without x hs n.1)
+place_without x (y ∷ hs) away = let n = or_parts (eqb y x) (among x hs) away in rw (n.0, place_without x hs n.1)
 
 -- One who comes last
 
 module _ (a : ℕ) where
   -- moves nobody
   pub place_kept : (x : ℕ) (hs : List ℕ) → among x hs ≡ true → place x (hs ++ (a ∷ [])) ≡ place x hs
-  place_kept x [] m = true_not_false false m refl
+  place_kept x [] m = cc
   place_kept x (y ∷ hs) m = go (eqb y x) (place_kept x hs) m
     where
       go : (t : Bool) → (among x hs ≡ true → place x (hs ++ (a ∷ [])) ≡ place x hs) → t || among x hs ≡ true
@@ -43,7 +44,7 @@ module _ (a : ℕ) where
 
   pub place-last : (hs : List ℕ) → among a hs ≡ false → place a (hs ++ (a ∷ [])) ≡ length hs
   place-last [] new = rw (eq-eqb a a refl)
-  place-last (y ∷ hs) new = let n = neither_true (eqb y a) (among a hs) new in rw (n.0, place-last hs n.1)
+  place-last (y ∷ hs) new = let n = or_parts (eqb y a) (among a hs) new in rw (n.0, place-last hs n.1)
 
   module _ (hs : List ℕ) where
     -- is added where it is new
@@ -59,13 +60,13 @@ module _ (a : ℕ) where
     pub away-before : (x : ℕ) → among x (with_holder a hs) ≡ false → among x hs ≡ false
     away-before x =
         added (λ l. among x l ≡ false → among x hs ≡ false) (λ _ e. e)
-        (λ _ e. (neither_true (among x hs) (eqb a x) (rw (among-joined a x hs) at e)).0)
+        (λ _ e. (or_parts (among x hs) (eqb a x) (rw (among-joined a x hs) at e)).0)
 
     pub added-distinct : distinct hs ≡ true → distinct (with_holder a hs) ≡ true
     added-distinct d = added (λ l. distinct l ≡ true) (λ _. d) (distinct-last hs a d)
 
     -- with nothing, it adds nothing
-    pub added-total : (f : ℕ → ℕ) → (among a hs ≡ false → f a ≡ 0) → total (map f (with_holder a hs)) ≡ total (map f hs)
+    pub added-total : (f : ℕ → ℕ) → (among a hs ≡ false → f a ≡ 0) → sum (map f (with_holder a hs)) ≡ sum (map f hs)
     added-total f none =
-        added (λ l. total (map f l) ≡ total (map f hs)) (λ _. refl)
-        (λ new. rw (map-append f hs (a ∷ []), total-append (map f hs) (f a ∷ [])) (omega (arith, none new)))
+        added (λ l. sum (map f l) ≡ sum (map f hs)) (λ _. refl)
+        (λ new. rw map-append (omega (arith, sum_by_push (λ (n : ℕ). n) (map f hs) (f a), none new)))

@@ -14,7 +14,7 @@ use Rattle.general_laws.specs.Sums.{sum_below}
 use Rattle.apportionment.proofs.Callers.{nothing_for_none, weight-total}
 use Rattle.general_laws.proofs.Counts.{count_same, count-suc}
 use Rattle.general_laws.proofs.Sums.{sum_same}
-use Rattle.general_laws.proofs.Totals.{total-append}
+use Rattle.std.proofs.lemmas.List.Sums.{sum_by_push}
 use Rattle.apportionment.specs.Apportionment.{total_weight, quotient, remainder, leftover, comes_before, rank, gets_extra, part}
 
 module _ (m : ℕ) (ws : List ℕ) where
@@ -26,7 +26,7 @@ module _ (m : ℕ) (ws : List ℕ) where
   length-joined = length-append ws (0 ∷ []) ∙ add-one (length ws)
 
   weight-kept : total_weight joined ≡ total_weight ws
-  weight-kept = omega (arith, weight-total joined, weight-total ws, total-append ws (0 ∷ []))
+  weight-kept = omega (arith, weight-total joined, weight-total ws, sum_by_push (λ (w : ℕ). w) ws 0)
 
   -- the division of each
 

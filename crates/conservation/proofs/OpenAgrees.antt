@@ -1,7 +1,8 @@
 -- An accepted opening agrees with the tally's start.
 use mathlib.Core.Path.{◌≡◌, refl, sym, ap, ◌∙◌}
 use mathlib.Core.List.{map, map-map}
-use Rattle.general_laws.specs.Sums.{sum_below, total}
+use Rattle.std.specs.List.{sum}
+use Rattle.general_laws.specs.Sums.{sum_below}
 use Rattle.book_model.specs.declared.Book.{Book}
 use Rattle.book_model.specs.Book.{empty_book, fresh, held}
 use Rattle.conservation.specs.Conservation.{opening_of}
@@ -21,10 +22,10 @@ module _ (o : Opening) where
     positions_are : founded o.holders o.shares ≡ map (λ h. fresh h (listed o.holders o.shares h)) o.holders
     positions_are = founded-is o.holders o.shares financed.one_length financed.holders-distinct
 
-    shares_are : total (map (listed o.holders o.shares) o.holders) ≡ 1000000
+    shares_are : sum (map (listed o.holders o.shares) o.holders) ≡ 1000000
     shares_are =
-        sym (ap (λ ps. total (shares ps)) positions_are ∙ ap total (map-map (λ p. p.share.0) (λ h. fresh h (listed o.holders o.shares h)) o.holders))
-        ∙ ap total (founded-shares o.holders o.shares financed.one_length)
+        sym (ap (λ ps. sum (shares ps)) positions_are ∙ ap sum (map-map (λ p. p.share.0) (λ h. fresh h (listed o.holders o.shares h)) o.holders))
+        ∙ ap sum (founded-shares o.holders o.shares financed.one_length)
         ∙ financed.shares_whole
 
     agrees-founded : Agrees c (start o)
@@ -55,6 +56,6 @@ module _ (o : Opening) where
   agrees-opened = opening-is (λ b. Agrees b (start o)) (agrees-founded opened_book opened_step)
 
   -- nothing is received yet
-  pub receipts-opened : (opening_of o).answer.number ≡ 0 → total (receipts (held (opening_of o).book)) ≡ 0
+  pub receipts-opened : (opening_of o).answer.number ≡ 0 → sum (receipts (held (opening_of o).book)) ≡ 0
   receipts-opened =
-      opening-is (λ b. total (receipts (held b)) ≡ 0) (λ _. rw opened_step.positions (founded-receipts o.holders o.shares))
+      opening-is (λ b. sum (receipts (held b)) ≡ 0) (λ _. rw opened_step.positions (founded-receipts o.holders o.shares))

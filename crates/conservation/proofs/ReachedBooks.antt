@@ -1,9 +1,9 @@
 -- A reached open book comes from an accepted opening and a list of calls, so demand 3 holds of it.
 use Prim.Native.Nat.{ℕ}
 use mathlib.Core.Path.{◌≡◌, refl, sym, ap, ◌∙◌, subst}
-use mathlib.Core.Bool.{true, false}
+use mathlib.Core.Bool.{true}
 use mathlib.Core.List.{List, [], ◌∷◌, ◌++◌}
-use Rattle.general_laws.proofs.Choice.{by-test, true_not_false}
+use Rattle.general_laws.proofs.Choice.{by-test}
 use Rattle.book_model.specs.declared.Book.{Book}
 use Rattle.account.specs.declared.Cents.{Cents}
 use Rattle.account.specs.declared.Day.{Day}
@@ -14,9 +14,10 @@ use Rattle.book_model.specs.Open.{opened}
 use Rattle.book_model.specs.Outcome.{Outcome}
 use Rattle.book_model.specs.Reached.{Reached, empty, opens, advances, rates, transfers, settles}
 use Rattle.book_model.specs.Invariant.{Sound}
-use Rattle.book_model.proofs.Callers.{open_cases, advance_cases, rate_cases, transfer_cases, settle_cases, sound}
+use Rattle.book_model.proofs.Callers.{open_cases, sound}
 use Rattle.conservation.specs.Conservation.{opening_of, feed_of, Conserved, History, ReachedConserved}
 use Rattle.conservation.specs.Tally.{start, fed_with}
+use Rattle.conservation.proofs.CallCases.{right-open, call_cases}
 use Rattle.conservation.proofs.Conserved.{conserved}
 
 -- History without its last field, which follows
@@ -47,15 +48,9 @@ run_more [] k b = refl
 run_more (j ∷ ks) k b = run_more ks k (book_after b j)
 
 module _ (b : Book) where
-  abbrev OpenBefore : {A : Type 0} → Outcome A → Type 0
-  OpenBefore r = r.book.opened ≡ true → b.opened ≡ true
-
   -- a call on a book that is not open does not open it
   open_before : (k : Call) → (book_after b k).opened ≡ true → b.opened ≡ true
-  open_before (Advance date) = advance_cases b date OpenBefore (λ _ e. e) (λ right _. right.is_open)
-  open_before (Rate date annual) = rate_cases b date annual OpenBefore (λ _ e. e) (λ right _. right.is_open)
-  open_before (Transfer c a n) = transfer_cases b c a (record { 0 = n }) OpenBefore (λ _ e. e) (λ right _. right.is_open)
-  open_before (Settle m) = settle_cases b (record { 0 = m }) OpenBefore (λ _ e. e) (λ right _. right.is_open)
+  open_before k = call_cases b k (λ _ c. c.opened ≡ true → b.opened ≡ true) (λ _ e. e) (λ right _. right-open b k right)
 
   origin-after : (b.opened ≡ true → Origin b) → (k : Call) → (book_after b k).opened ≡ true → Origin (book_after b k)
   origin-after before k e =
@@ -77,7 +72,7 @@ module _ (first : ℕ) (term : Day) (annual : ℕ) (cents : Cents) (hs ss : List
   unfolding empty_book
   opened-accepted =
       open_cases empty_book first term annual cents hs ss (λ (r : Outcome (Unit {0})). r.book.opened ≡ true → r.answer.number ≡ 0)
-      (λ _ e. true_not_false false e refl) (λ _ _. refl)
+      (λ _ e. cc) (λ _ _. refl)
 
   origin-opened : (opened_from empty_book).book.opened ≡ true → Origin (opened_from empty_book).book
   unfolding run
@@ -103,7 +98,7 @@ module _ (first : ℕ) (term : Day) (annual : ℕ) (cents : Cents) (hs ss : List
 
 origin : {b : Book} → Reached b → b.opened ≡ true → Origin b
 unfolding empty_book
-origin empty e = true_not_false false e refl
+origin empty e = cc
 origin (opens r first term annual cents hs ss) e = origin_open first term annual cents hs ss _ (sound _ r) (λ was. origin r was) e
 origin (advances r date) e = origin-after _ (λ was. origin r was) (Advance date) e
 origin (rates r date annual) e = origin-after _ (λ was. origin r was) (Rate date annual) e

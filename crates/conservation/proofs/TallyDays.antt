@@ -7,10 +7,11 @@ use mathlib.Core.List.{map}
 use mathlib.Core.Option.{Option, none, some}
 use borrow.Author.Tests.{le-leb, lt-leb}
 use lib.Dec.{leb}
-use Rattle.general_laws.specs.Sums.{sum_below, total}
+use Rattle.std.specs.List.{sum}
+use Rattle.general_laws.specs.Sums.{sum_below}
 use Rattle.general_laws.proofs.Choice.{choice}
 use Rattle.general_laws.proofs.Sums.{sum_same, sum-zero}
-use Rattle.general_laws.proofs.Totals.{total_le}
+use Rattle.std.proofs.lemmas.List.Sums.{sum_by-le-sum_by, sum-map}
 use Rattle.conservation.specs.Tally.{Tally, share_days, is_settled, last_before, weight}
 
 -- The day of the last settlement before a day
@@ -76,11 +77,11 @@ unfolding weight
 weight-same t t' d h p e = rw (last-same t.paid t'.paid d p) (share_days_same t t' h _ d e)
 
 -- after day 0 there are unit-days to divide by
-pub weights-some : (t : Tally) (d : ℕ) → 0 < d → ((k : ℕ) → total (map (λ h. t.share h k) t.holders) ≡ 1000000)
-    → 0 < total (map (weight t d) t.holders)
+pub weights-some : (t : Tally) (d : ℕ) → 0 < d → ((k : ℕ) → sum (map (λ h. t.share h k) t.holders) ≡ 1000000)
+    → 0 < sum (map (weight t d) t.holders)
 unfolding weight
 weights-some t zero after whole = absurd (omega arith)
 weights-some t (suc d) after whole =
-    let most = total_le t.holders (λ h. t.share h d) (weight t (suc d))
+    let most = sum_by-le-sum_by (λ h. t.share h d) (weight t (suc d)) t.holders
     (λ h. omega (arith, share_days_more t h (last_before t.paid (suc d)) d (omega (arith, last-most t.paid (suc d))))) in
-    omega (arith, whole d)
+    omega (arith, whole d, sum-map (λ h. t.share h d) t.holders, sum-map (weight t (suc d)) t.holders)

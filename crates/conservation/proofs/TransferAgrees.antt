@@ -9,9 +9,9 @@ use borrow.Author.Tests.{eqb-true, eqb-false, eq-eqb, ne_eqb, le-leb, lt-leb}
 use lib.Dec.{eqb, leb}
 use lib.ListN.{length-map}
 use Rattle.general_laws.specs.Members.{distinct, among}
-use Rattle.general_laws.specs.Sums.{total}
+use Rattle.std.specs.List.{sum}
 use Rattle.apportionment.proofs.Callers.{weight-total}
-use Rattle.general_laws.proofs.Choice.{choice, by_order, true_not_false}
+use Rattle.general_laws.proofs.Choice.{choice, by_order}
 use Rattle.general_laws.proofs.Members.{member_other, map_same, only_at, total-at}
 use Rattle.general_laws.proofs.Sums.{sum_same, sum-zero}
 use Rattle.general_laws.proofs.Totals.{total_both}
@@ -31,7 +31,7 @@ use Rattle.conservation.proofs.TallyDays.{share_days_same, share_days_absent, we
 
 -- A settlement's portions by weights f, where the assignee a comes last without any
 
-module _ (settlement : Option ℕ) (f : ℕ → ℕ) (hs : List ℕ) (a : ℕ) (some-weight : (m : ℕ) → settlement ≡ some m → 0 < total (map f hs))
+module _ (settlement : Option ℕ) (f : ℕ → ℕ) (hs : List ℕ) (a : ℕ) (some-weight : (m : ℕ) → settlement ≡ some m → 0 < sum (map f hs))
     (no_weight : among a hs ≡ false → f a ≡ 0) where
   -- the others' do not change
   portion_same : (h : ℕ) → among h hs ≡ true → portion_of settlement (map f (with_holder a hs)) (place h (with_holder a hs)) ≡ portion_of settlement (map f hs) (place h hs)
@@ -49,10 +49,10 @@ module _ (settlement : Option ℕ) (f : ℕ → ℕ) (hs : List ℕ) (a : ℕ) (
   portion_new : among a hs ≡ false → portion_of settlement (map f (with_holder a hs)) (place a (with_holder a hs)) ≡ 0
   portion_new new = go settlement some-weight
     where
-      go : (s : Option ℕ) → ((m : ℕ) → s ≡ some m → 0 < total (map f hs)) → portion_of s (map f (with_holder a hs)) (place a (with_holder a hs)) ≡ 0
+      go : (s : Option ℕ) → ((m : ℕ) → s ≡ some m → 0 < sum (map f hs)) → portion_of s (map f (with_holder a hs)) (place a (with_holder a hs)) ≡ 0
       go none w = refl
       go (some x) w =
-          added a hs (λ l. part x (map f l) (place a l) ≡ 0) (λ here. true_not_false (among a hs) here new)
+          added a hs (λ l. part x (map f l) (place a l) ≡ 0) (λ here. cc)
           (λ _.
           rw (map-append f hs (a ∷ []), no_weight new, place-last a hs new, ← length-map hs f)
           (part-last x (map f hs) (omega (arith, weight-total (map f hs), w x refl))))
@@ -179,20 +179,20 @@ module _ (b : Book) (known : OpenSound b) (t : Tally) (agrees : Agrees b t) (c a
       go false true e f = omega arith
       go false false e f = omega arith
 
-  whole_before : (d : ℕ) → total (map (λ h. t.share h d) joined) ≡ 1000000
+  whole_before : (d : ℕ) → sum (map (λ h. t.share h d) joined) ≡ 1000000
   whole_before d = added-total a t.holders (λ h. t.share h d) (agrees.absent a d) ∙ agrees.whole d
 
-  whole-kept : (d : ℕ) → total (map (λ h. moved.share h d) joined) ≡ 1000000
+  whole-kept : (d : ℕ) → sum (map (λ h. moved.share h d) joined) ≡ 1000000
   whole-kept d =
       by_order d t.today
-      (λ lt. ap total (map_same joined (λ h. moved.share h d) (λ h. t.share h d) (λ h m. share-before h d lt)) ∙ whole_before d)
+      (λ lt. ap sum (map_same joined (λ h. moved.share h d) (λ h. t.share h d) (λ h m. share-before h d lt)) ∙ whole_before d)
       (λ le.
       let All-apart = added-distinct a t.holders apart in
       let both =
       total_both joined (λ h. moved_share c a n h (t.share h d)) (λ h. t.share h d) (only_at c n) (only_at a n) (λ h. parts-moved h d le) in
       let ceded-parts = total-at c n joined All-apart (still_among a t.holders c there) in
       let taken-parts = total-at a n joined All-apart (added-among a t.holders) in
-      ap total (map_same joined (λ h. moved.share h d) (λ h. moved_share c a n h (t.share h d)) (λ h m. share-after h d le))
+      ap sum (map_same joined (λ h. moved.share h d) (λ h. moved_share c a n h (t.share h d)) (λ h m. share-after h d le))
       ∙ omega (arith, whole_before d))
 
   absent-kept : (h d : ℕ) → among h joined ≡ false → moved.share h d ≡ 0

@@ -1,6 +1,6 @@
 -- Demand 3: after every list of calls from an accepted opening, the book equals the tally.
-use Rattle.std.specs.Prelude.{ℕ, ◌+◌, ◌*◌, ◌≡◌, true, cond, List, [], ◌∷◌, map}
-use Rattle.general_laws.specs.Sums.{sum_below, total}
+use Rattle.std.specs.Prelude.{ℕ, ◌+◌, ◌*◌, ◌≡◌, true, cond, List, [], ◌∷◌, map, sum}
+use Rattle.general_laws.specs.Sums.{sum_below}
 use Rattle.book_model.specs.declared.Book.{Book}
 use Rattle.book_model.specs.declared.called.ReachedBook.{ReachedBook}
 use Rattle.book_model.specs.Book.{empty_book, held}
@@ -33,7 +33,7 @@ accepted_cents (x ∷ xs) = cond x.accepted (cents_of x.call) 0 + accepted_cents
 
 pub record Conserved (o : Opening) (b : Book) (t : Tally) (xs : List Fed) : Type 0 where
   -- "Shares total 1,000,000, each holder's being today's in the paper's tally."
-  pub shares_whole : total (shares (held b)) ≡ 1000000
+  pub shares_whole : sum (shares (held b)) ≡ 1000000
   pub holders-same : holders (held b) ≡ t.holders
   pub shares-same : shares (held b) ≡ map (share_today t) t.holders
   -- "Outstanding plus principal paid is the recognised amount."
@@ -43,7 +43,7 @@ pub record Conserved (o : Opening) (b : Book) (t : Tally) (xs : List Fed) : Type
   pub interest-whole : 10000000000 * (b.account.interest_paid.0 + b.account.due.0) + b.account.fraction
       ≡ sum_below t.today (λ day. outstanding_on o t day * daily_of_day t day)
   -- "Receipts total the cents of all accepted settlements."
-  pub receipts-whole : total (receipts (held b)) ≡ accepted_cents xs
+  pub receipts-whole : sum (receipts (held b)) ≡ accepted_cents xs
   -- "Each holder has exactly the sum of its unit-day portions of them, each rounded down or up to a cent as the paper's Settle places the
   -- leftover cents."
   pub receipts-same : receipts (held b) ≡ map (received t) t.holders

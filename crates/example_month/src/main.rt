@@ -4,34 +4,39 @@
 mod printing;
 
 use crate::printing::{put_positions, put_refused, put_totals};
-use book::{Cents, Day, Parts, ReachedBook, Taken};
+use book::{Called, Cents, Day, Opening, Parts, ReachedBook};
 
-// Each call has a function that prints its answer, and answers the book after it. A write that fails is let go.
+// Prints a call's answer, and answers the book after it. A write that fails is let go.
+fn told<T: Drop, F: FnOnce(T)>(rt: &impl Print, called: Called<T>, say: F) -> ReachedBook
+    requires { F.IsAlwaysCallable say }
+{
+    let Called { answer, book } = called;
+    match answer {
+        Ok(value) => say(value),
+        Err(refusal) => put_refused(rt, refusal),
+    }
+    book
+}
 
 // Two holders finance a right of 2,500,000.00 euros at 2 percent.
 fn open_right(rt: &impl Print, book: ReachedBook) -> ReachedBook {
-    let holders = [101, 202];
-    let shares = [600000, 400000];
-    let cents = Cents(250000000);
-    let opened = book::open_book(book, 20240101, Day(1826), 2000, cents, &holders, &shares);
-    match opened.answer {
-        Ok(()) => {
-            let _ = println!(rt; "The right is open.");
-        }
-        Err(refusal) => put_refused(rt, refusal),
-    }
-    opened.book
+    let opening = Opening {
+        first: 20240101,
+        term: Day(1826),
+        annual: 2000,
+        cents: Cents(250000000),
+        holders: &[101, 202],
+        shares: &[600000, 400000],
+    };
+    told(rt, book::open_book(book, opening), |()| {
+        let _ = println!(rt; "The right is open.");
+    })
 }
 
 fn advance(rt: &impl Print, book: ReachedBook, date: u32) -> ReachedBook {
-    let advanced = book::advance(book, date);
-    match advanced.answer {
-        Ok(days) => {
-            let _ = println!(rt; "{} days passed.", days.0);
-        }
-        Err(refusal) => put_refused(rt, refusal),
-    }
-    advanced.book
+    told(rt, book::advance(book, date), |days| {
+        let _ = println!(rt; "{} days passed.", days.0);
+    })
 }
 
 fn transfer(
@@ -41,42 +46,24 @@ fn transfer(
     assignee: u32,
     parts: Parts,
 ) -> ReachedBook {
-    let transferred = book::transfer(book, cedent, assignee, parts);
-    match transferred.answer {
-        Ok(parts) => {
-            let _ = println!(rt; "{} parts remain with the cedent.", parts.0);
-        }
-        Err(refusal) => put_refused(rt, refusal),
-    }
-    transferred.book
+    told(rt, book::transfer(book, cedent, assignee, parts), |parts| {
+        let _ = println!(rt; "{} parts remain with the cedent.", parts.0);
+    })
 }
 
 fn settle(rt: &impl Print, book: ReachedBook, cents: Cents) -> ReachedBook {
-    let settled = book::settle(book, cents);
-    match settled.answer {
-        Ok(
-            Taken {
-                interest,
-                principal,
-            },
-        ) => {
-            let _ = print!(rt; "{} cents taken as interest, ", interest.0);
-            let _ = println!(rt; "{} as principal.", principal.0);
-        }
-        Err(refusal) => put_refused(rt, refusal),
-    }
-    settled.book
+    told(rt, book::settle(book, cents), |taken| {
+        let _ = println!(rt;
+            "{} cents taken as interest, {} as principal.",
+            taken.interest.0, taken.principal.0
+        );
+    })
 }
 
 fn rate(rt: &impl Print, book: ReachedBook, date: u32, annual: u64) -> ReachedBook {
-    let rated = book::rate(book, date, annual);
-    match rated.answer {
-        Ok(_) => {
-            let _ = println!(rt; "The rate is revised.");
-        }
-        Err(refusal) => put_refused(rt, refusal),
-    }
-    rated.book
+    told(rt, book::rate(book, date, annual), |_| {
+        let _ = println!(rt; "The rate is revised.");
+    })
 }
 
 // The month's calls. The second settlement of 31 January is refused, and the month goes on with the book that came back.

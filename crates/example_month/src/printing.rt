@@ -1,6 +1,6 @@
 // What the month prints for a person. No contract can say what is printed.
 use answers::Numbered;
-use book::{Book, ReachedBook, Refusal, Totals};
+use book::{Book, Placed, ReachedBook, Refusal, Totals};
 
 pub fn put_refused(rt: &impl Print, refusal: Refusal) {
     let _ = println!(rt; "Refused with {}.", refusal.number());
@@ -23,14 +23,11 @@ pub fn put_totals(rt: &impl Print, book: &ReachedBook) {
 // Each position in book order, up to the first place that is refused, in columns as wide as an H line's.
 pub fn put_positions(rt: &impl Print, book: &ReachedBook) {
     let _ = println!(rt; "\n   Holder    Share   Unit-days       Received");
-    for place in 0..Book::POSITIONS {
-        match book::position_at(book, place) {
-            Ok(placed) => {
-                let position = placed.position;
-                let _ = print!(rt; "{:>9}{:>9}", position.holder, position.share.0);
-                let _ = println!(rt; "{:>12}{:>15}", position.unit_days, position.received.0);
-            }
-            Err(_) => return,
-        }
+    let placed = (0..Book::POSITIONS).map_while(|place| book::position_at(book, place).ok());
+    for Placed { position, .. } in placed {
+        let _ = println!(rt;
+            "{:>9}{:>9}{:>12}{:>15}",
+            position.holder, position.share.0, position.unit_days, position.received.0
+        );
     }
 }

@@ -1,5 +1,6 @@
 -- The load after a line that makes a call, by the case of its answer.
-use Rattle.std.proofs.Common.{arith, ℕ, ◌≡◌, ◌+◌, ◌-◌, ◌<◌, refl, sym, ap, ◌∙◌, ◌≢◌, Result, Ok, Err, cond, Bool, [], take}
+use Rattle.std.proofs.Common.{arith, ℕ, ◌≡◌, ◌+◌, ◌-◌, ◌<◌, refl, sym, ap, ◌∙◌, ◌≢◌, Result, Ok, Err, cond, Bool, []}
+use mathlib.Core.Path.{ap₂}
 use Rattle.account.specs.declared.Day.{Day}
 use Rattle.book_model.specs.declared.Book.{Book}
 use Rattle.book_model.specs.declared.Parts.{Parts}
@@ -54,25 +55,32 @@ module _ (f : Fields) (l : Lines) (some : 0 < l.read) (b : Book) where
   abbrev Kept : {A : Type 0} → Result A Refusal → Book → Type 0
   Kept answer after = (told : Result (Unit {0}) LoadFault) → told ≡ by_line l.read answer → Obeys f l l b after told
 
+  -- by the call's own outcome
+  kept : {A : Type 0} (zeros : A) (k : Call) (o : book-outcome.Outcome A) → number_of b k ≡ o.answer.number → book_after b k ≡ o.book → order_of f ≡ Later k
+      → (answer : Result A Refusal) (after : Book) → book-outcome.outcome zeros answer after ≡ o → Kept answer after
+  kept zeros k o number book is answer after e told same =
+      record {
+        same = λ before last.
+            call k is before last
+            ∙ ap₂ (λ (n : ℕ) (b : Book). after_call before l.read n b (λ opened. left before opened None l)) number book
+            ∙ call-kept zeros before l.read (λ opened. left before opened None l) answer after e told same;
+      }
+
   pub obeys-advance : f.letter ≡ 68 → (answer : Result Day Refusal) (after : Book) → book-outcome.outcome no_days answer after ≡ advanced b f.date → Kept answer after
   unfolding order_of
-  obeys-advance is answer after e told same =
-      record { same = λ before last. call (Advance f.date) (simp is) before last ∙ call-kept no_days before l.read (λ opened. left before opened None l) answer after e told same }
+  obeys-advance is = kept no_days (Advance f.date) (advanced b f.date) refl refl (simp is)
 
   pub obeys-rate : f.letter ≡ 82 → (answer : Result Revised Refusal) (after : Book) → book-outcome.outcome no_changes answer after ≡ rated b f.date f.third → Kept answer after
   unfolding order_of
-  obeys-rate is answer after e told same =
-      record { same = λ before last. call (Rate f.date f.third) (simp is) before last ∙ call-kept no_changes before l.read (λ opened. left before opened None l) answer after e told same }
+  obeys-rate is = kept no_changes (Rate f.date f.third) (rated b f.date f.third) refl refl (simp is)
 
   pub obeys-transfer : f.letter ≡ 84 → (answer : Result Parts Refusal) (after : Book) → book-outcome.outcome no_parts answer after ≡ transferred b f.first f.second (record { 0 = f.third }) → Kept answer after
   unfolding order_of
-  obeys-transfer is answer after e told same =
-      record { same = λ before last. call (Transfer f.first f.second f.third) (simp is) before last ∙ call-kept no_parts before l.read (λ opened. left before opened None l) answer after e told same }
+  obeys-transfer is = kept no_parts (Transfer f.first f.second f.third) (transferred b f.first f.second (record { 0 = f.third })) refl refl (simp is)
 
   pub obeys-settle : f.letter ≡ 83 → (answer : Result Taken Refusal) (after : Book) → book-outcome.outcome nothing_taken answer after ≡ settled b (record { 0 = f.third }) → Kept answer after
   unfolding order_of
-  obeys-settle is answer after e told same =
-      record { same = λ before last. call (Settle f.third) (simp is) before last ∙ call-kept nothing_taken before l.read (λ opened. left before opened None l) answer after e told same }
+  obeys-settle is = kept nothing_taken (Settle f.third) (settled b (record { 0 = f.third })) refl refl (simp is)
 
   pub obeys-opening : f.letter ≡ 79 → {new : Lines} {after : Book} {answer : Result (Unit {0}) LoadFault}
       → Opens f.date f.first f.second f.third l new b after answer → Obeys f l new b after answer
@@ -97,7 +105,7 @@ module _ (f : Fields) (l : Lines) (some : 0 < l.read) (b : Book) where
 -- an opening with the holders and shares that were gathered
 pub opens-gathered : {old new : Lines} {g : Financing} (first term annual cents : ℕ) (b : Book) → Gathers old new (Ok g)
     → (answer : Result (Unit {0}) Refusal) (after : Book)
-    → book-outcome.outcome nothing answer after ≡ opened_with b (opening_with first term annual cents (take g.count g.holders) (take g.count g.shares))
+    → book-outcome.outcome nothing answer after ≡ opened_with b (opening_with first term annual cents g.holders.items g.shares.items)
     → (told : Result (Unit {0}) LoadFault) → told ≡ by_line old.read answer → Opens first term annual cents old new b after told
 unfolding after_open
 opens-gathered {old = old} {new = new} first term annual cents b gathers answer after e told same = record {
@@ -105,3 +113,8 @@ opens-gathered {old = old} {new = new} first term annual cents b gathers answer 
       gathers.same before b old.read first term annual cents
       ∙ call-kept nothing before old.read (λ opened. left before opened None new) answer after e told same;
 }
+
+-- the lines of `obey`, and an opening's
+pub ruleset obeys = (obeys-advance, obeys-rate, obeys-transfer, obeys-settle, obeys-opening, obeys_unplaced)
+
+pub ruleset opens = (opens-gathered)

@@ -1,8 +1,7 @@
 -- The F lines of an opening: what each does to the load, and what holds of the lists gathered so far.
-use Rattle.std.proofs.Common.{arith, ℕ, ◌≡◌, ◌+◌, ◌≤◌, ◌<◌, refl, sym, ap, ◌∙◌, List, [], ◌∷◌, ◌++◌, Result, Ok, Err, length, get_or, take, drop, set}
-use native.Mathlib.Numerals.{add-one}
-use lib.ListN.{length-set, get_or-eq_default}
-use lib.Seq.{take-suc-set, length-take-le}
+use Rattle.std.proofs.Common.{arith, ℕ, ◌≡◌, ◌+◌, ◌≤◌, ◌<◌, refl, sym, ap, ◌∙◌, List, [], ◌∷◌, ◌++◌, Result, Ok, Err, length, get_or, drop}
+use mathlib.Core.Path.{ap₂}
+use lib.ListN.{length-append, get_or-eq_default}
 use borrow.Author.Tests.{le-leb, lt-leb}
 use Rattle.general_laws.proofs.Choice.{by_order}
 use Rattle.book_model.specs.declared.Book.{Book}
@@ -10,7 +9,7 @@ use Rattle.book_model.specs.declared.Refusal.TheVariants as book-refusal
 use Rattle.line.specs.declared.Fields.{Fields}
 use Rattle.line.specs.Line.{read_stated, line_of}
 use Rattle.lines.specs.Lines.{lines, line_at, end_of}
-use Rattle.lines.proofs.Callers.{first_byte}
+use Rattle.lines.proofs.Callers.{first_byte, end-past}
 use Rattle.file_model.specs.declared.LoadFault.{LoadFault}
 use Rattle.file_model.specs.declared.LoadRefusal.TheVariants as refusal
 use Rattle.file_model.specs.Order.{Finance, order_of, order_in}
@@ -64,40 +63,33 @@ module _ {old new : Lines} (r : Read old new) (is_f : get_or old.reader.file.now
         (load_alike b first term annual cents before line (hs ++ (f.first ∷ [])) _ _ (alike_last ss f.third) (old.read + 1) (lines (drop (end_of s at) s)))
         ∙ left_behind r before b _
 
--- The lists so far: with the first `count` places of both, what is left is what was asked
+-- The lists so far: with them, what is left is what was asked
 
 pub record Gathering (first now : Lines) (g : Financing) : Type 0 where
   pub same : (before b : Book) (line first-day term annual cents : ℕ)
       → waiting_left before b line first-day term annual cents [] [] first
-      ≡ waiting_left before b line first-day term annual cents (take g.count g.holders) (take g.count g.shares) now
+      ≡ waiting_left before b line first-day term annual cents g.holders.items g.shares.items now
   pub moves : Moves first now
-  pub few : g.count ≤ 64
-  pub holders-full : length g.holders ≡ 64
-  pub shares-full : length g.shares ≡ 64
+  pub few : length g.holders.items ≤ 64
+  pub even : length g.shares.items ≡ length g.holders.items
 
 -- nothing but F begins with that byte, and it is there
 pub byte_there : (s : List ℕ) (at : ℕ) → get_or s at 0 ≡ 70 → at < length s
 byte_there s at e = by_order at (length s) (λ h. h) (λ h. absurd (omega (arith, get_or-eq_default s 0 h)))
 
 -- one holder more
-pub gathering_goes_on : {first old new : Lines} {g : Financing} → Gathering first old g → Read old new → get_or old.reader.file.now old.reader.at 0 ≡ 70
-    → (f : Fields) → read_stated (Ok f) ≡ line_of (line_at old.reader.file.now old.reader.at) → g.count < 64
-    → Gathering first new (record { holders = set g.holders g.count f.first; shares = set g.shares g.count (saturated f.third); count = g.count + 1 })
-gathering_goes_on {g = g} so_far r is_f f e room =
+pub gathering_goes_on : {first old new : Lines} {g h : Financing} → Gathering first old g → Read old new → get_or old.reader.file.now old.reader.at 0 ≡ 70
+    → (f : Fields) → read_stated (Ok f) ≡ line_of (line_at old.reader.file.now old.reader.at) → length g.holders.items < 64
+    → h.holders.items ≡ g.holders.items ++ (f.first ∷ []) → h.shares.items ≡ g.shares.items ++ (saturated f.third ∷ []) → Gathering first new h
+gathering_goes_on {new = new} {g = g} {h = h} so_far r is_f f e room holders shares =
     record {
       same = λ before b line first-day term annual cents.
           so_far.same before b line first-day term annual cents
-          ∙ financing-read r is_f before b line first-day term annual cents (take g.count g.holders) (take g.count g.shares) f e
-          (omega (arith, length-take-le g.count g.holders (omega (arith, so_far.holders-full, room))))
-          ∙ rw (
-            add-one g.count,
-            take-suc-set g.holders g.count f.first (omega (arith, so_far.holders-full, room)),
-            take-suc-set g.shares g.count (saturated f.third) (omega (arith, so_far.shares-full, room)),
-          );
+          ∙ financing-read r is_f before b line first-day term annual cents g.holders.items g.shares.items f e room
+          ∙ ap₂ (λ (hs ss : List ℕ). waiting_left before b line first-day term annual cents hs ss new) (sym holders) (sym shares);
       moves = moves_on so_far.moves (read-moves r);
-      few = omega (arith, room);
-      holders-full = length-set g.holders g.count f.first ∙ so_far.holders-full;
-      shares-full = length-set g.shares g.count (saturated f.third) ∙ so_far.shares-full;
+      few = rw (holders, length-append) (omega (arith, room));
+      even = rw (holders, shares, length-append, length-append) (omega (arith, so_far.even));
     }
 
 module _ {first old : Lines} {g : Financing} (so_far : Gathering first old g) where
@@ -113,14 +105,13 @@ module _ {first old : Lines} {g : Financing} (so_far : Gathering first old g) wh
               ∙ ap (gathered before b line first-day term annual cents new) (sym is);
         }
 
-    pub gathering-full : (f : Fields) → read_stated (Ok f) ≡ line_of (line_at old.reader.file.now old.reader.at) → g.count ≡ 64
+    pub gathering-full : (f : Fields) → read_stated (Ok f) ≡ line_of (line_at old.reader.file.now old.reader.at) → length g.holders.items ≡ 64
         → (fault : LoadFault) → (fault.refusal ≡ refusal.Call book-refusal.Financing) × (fault.line ≡ new.read) → Gathers first new (Err fault)
     gathering-full f e full fault is =
-        let most = length-take-le g.count g.holders (omega (arith, full, so_far.holders-full)) in
         record {
           same = λ before b line first-day term annual cents.
               so_far.same before b line first-day term annual cents
-              ∙ financing-full r is_f before b line first-day term annual cents _ _ f e (omega (arith, full, most))
+              ∙ financing-full r is_f before b line first-day term annual cents _ _ f e (omega (arith, full))
               ∙ ap (λ (x : ℕ). refused before x (refusal.Call book-refusal.Financing)) (sym is.1)
               ∙ ap (refused before fault.line) (sym is.0);
         }
@@ -132,3 +123,6 @@ module _ {first old : Lines} {g : Financing} (so_far : Gathering first old g) wh
             so_far.same before b line first-day term annual cents
             ∙ load-opens old.reader.file.now old.reader.at old.read before b _ (λ _. other);
       }
+
+-- where a line that begins with F ends
+pub ruleset line_of_f = (byte_there, end-past)

@@ -1,15 +1,14 @@
 -- What the line at a reader does where no opening waits, by what reading it gave.
-use Rattle.std.proofs.Common.{ℕ, ◌≡◌, ◌≢◌, ◌+◌, refl, sym, ap, ◌∙◌, Bool, List, [], Ok, Err, length, get_or, drop}
+use Rattle.std.proofs.Common.{arith, ℕ, ◌≡◌, ◌≢◌, ◌+◌, sym, ap, ◌∙◌, Bool, List, [], Ok, Err, length, get_or, drop}
 use lib.Dec.{eqb}
-use borrow.Author.Tests.{eqb-true, eqb-false}
+use Rattle.std.proofs.lemmas.Bool.Decides.{nat_tests}
 use Rattle.book_model.specs.declared.Book.{Book}
-use Rattle.general_laws.proofs.Choice.{by-test, choice}
 use Rattle.line.specs.declared.Fields.{Fields}
 use Rattle.line.specs.Line.{read_stated, line_of}
 use Rattle.lines.specs.Lines.{lines, line_at}
 use Rattle.lines.proofs.Callers.{first_byte}
 use Rattle.file_model.specs.declared.LoadRefusal.TheVariants as refusal
-use Rattle.file_model.specs.Order.{Order, Open, Finance, End, Malformed, order_of, order_in}
+use Rattle.file_model.specs.Order.{Order, Open, End, Malformed, order_of, order_in}
 use Rattle.file_model.specs.Load.{Outcome, Waiting, None, Waits, refused, opening_with, ended, after_line, load_from}
 use Rattle.file_model.proofs.Callers.{order-read, order-malformed, letter-first}
 use Rattle.file.specs.declared.reading.Lines.{Lines}
@@ -41,26 +40,26 @@ module _ {old new : Lines} (r : Read old new) (before b : Book) where
       ∙ ap (λ (x : ℕ). does_at new.reader.file.now new.reader.at x (order_in (line_at s at))) (sym r.counted)
       ∙ ap does e
 
-  refused_here : refused before (old.read + 1) refusal.Line ≡ refused before new.read refusal.Line
-  refused_here = ap (λ (x : ℕ). refused before x refusal.Line) (sym r.counted)
-
   pub line-malformed : read_stated (Err (record {})) ≡ line_of (line_at s at) → left before b None old ≡ refused before new.read refusal.Line
   unfolding after_line
   line-malformed e =
-      by-test (eqb (get_or s at 0) 70)
-      (λ t. load_unplaced s at old.read before b r.more (eqb-true _ _ t) ∙ refused_here)
-      (λ t. by_bytes (eqb-false _ _ t) Malformed (order-malformed (line_at s at) e) ∙ refused_here)
+      let placed : (get_or s at 0 ≡ 70 → ⊥) → left before b None old ≡ does Malformed = λ other. by_bytes other Malformed (order-malformed (line_at s at) e) in
+      grind (arith, nat_tests, placed, load_unplaced s at old.read before b r.more, r.counted)
 
   -- the letter is the byte at the reader
   pub line-ordered : (f : Fields) → read_stated (Ok f) ≡ line_of (line_at s at) → left before b None old ≡ does (order_of f)
   unfolding order_of after_line
   line-ordered f e =
-      let letter : f.letter ≡ get_or s at 0 = letter-first f (line_at s at) e ∙ first_byte s at r.more in
-      by-test (eqb f.letter 70)
-      (λ t.
-      let is : order_of f ≡ Finance f.first f.third = simp (eqb-true _ _ t) in
-      load_unplaced s at old.read before b r.more (sym letter ∙ eqb-true _ _ t) ∙ ap does (sym is))
-      (λ t. by_bytes (λ is_f. eqb-false _ _ t (letter ∙ is_f)) _ (order-read f (line_at s at) e))
+      grind (
+        arith,
+        nat_tests,
+        load_unplaced s at old.read before b r.more,
+        by_bytes,
+        order-read f (line_at s at) e,
+        letter-first f (line_at s at) e,
+        first_byte s at r.more,
+        r.counted,
+      )
 
 -- by letter
 
@@ -86,11 +85,4 @@ module _ (before b : Book) (n : ℕ) (f : Fields) (last : Bool) (rest : Book →
 
   pub order_unplaced : f.letter ≢ 79 → f.letter ≢ 68 → f.letter ≢ 82 → f.letter ≢ 84 → f.letter ≢ 83 → f.letter ≢ 69 → Unplaced (order_of f)
   unfolding order_of after_line
-  order_unplaced not-o not-d not-r not_t not-s not-e =
-      choice Unplaced (eqb f.letter 79) (λ e. absurd (not-o (eqb-true _ _ e))) λ _.
-      choice Unplaced (eqb f.letter 70) (λ _. refl) λ _.
-      choice Unplaced (eqb f.letter 68) (λ e. absurd (not-d (eqb-true _ _ e))) λ _.
-      choice Unplaced (eqb f.letter 82) (λ e. absurd (not-r (eqb-true _ _ e))) λ _.
-      choice Unplaced (eqb f.letter 84) (λ e. absurd (not_t (eqb-true _ _ e))) λ _.
-      choice Unplaced (eqb f.letter 83) (λ e. absurd (not-s (eqb-true _ _ e))) λ _.
-      choice Unplaced (eqb f.letter 69) (λ e. absurd (not-e (eqb-true _ _ e))) (λ _. refl)
+  order_unplaced not-o not-d not-r not_t not-s not-e = grind (arith, nat_tests)

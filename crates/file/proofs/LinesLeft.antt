@@ -2,9 +2,13 @@
 use Rattle.std.proofs.Common.{arith, ◌≡◌, ◌+◌, ◌<◌, refl, ◌∙◌, length, drop}
 use Rattle.book_model.specs.declared.Book.{Book}
 use Rattle.lines.specs.Lines.{lines, end_of}
+use Rattle.lines.proofs.Callers.{end-within, end-past}
 use Rattle.file_model.specs.Load.{Waiting, load_from}
 use Rattle.file.specs.declared.reading.Lines.{Lines}
 use Rattle.file.specs.Turns.{left, Moves}
+
+-- where the line at a position ends
+pub ruleset line_ends = (end-within, end-past)
 
 -- a reader before and after a line
 pub record Read (old new : Lines) : Type 0 where

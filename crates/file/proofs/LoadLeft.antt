@@ -5,6 +5,7 @@ use Rattle.book_model.specs.declared.Book.{Book}
 use Rattle.line.specs.declared.Fields.{Fields}
 use Rattle.line.specs.Line.{read_stated, line_of}
 use Rattle.lines.specs.Lines.{lines, line_at}
+use Rattle.lines.proofs.Callers.{end-past}
 use Rattle.file_model.specs.declared.LoadFault.{LoadFault}
 use Rattle.file_model.specs.declared.LoadRefusal.TheVariants as refusal
 use Rattle.file_model.specs.Order.{order_of}
@@ -96,3 +97,6 @@ module _ {s : List ℕ} {before b : Book} {old : Lines} (so_far : Left s before 
         pub left-stops : {fault : LoadFault} → answer ≡ Err fault → (result : Result ℕ LoadFault) → result ≡ Err fault → stopped before result after ≡ load_of before s
         left-stops at result is =
             ap (λ x. stopped before x after) is ∙ sym (obeyed ∙ ap (goes_on before (λ opened. left before opened None new) after) at)
+
+-- the turns of the load
+pub ruleset load_steps = (left-empty, left-begins, left-unfinished, left-ended, left_goes_on, left-stops, end-past)

@@ -1,13 +1,13 @@
 -- One line of a load, at a position of the file.
-use mathlib.Core.Path.{◌≡◌, refl, sym, ap, ◌∙◌}
+use mathlib.Core.Path.{◌≡◌, refl, ap, ◌∙◌}
 use mathlib.Core.Bool.{true, false}
 use mathlib.Core.List.{List, [], ◌∷◌}
 use Prim.Native.Nat.{ℕ, ◌+◌, ◌≤◌, ◌<◌}
 use native.Mathlib.Omega.{arith}
-use native.Mathlib.Decide.{dec_lt}
 use lib.Dec.{eqb}
 use lib.ListN.{length, get_or, drop}
 use borrow.Author.Tests.{eq-eqb, ne_eqb}
+use Rattle.std.proofs.lemmas.Bool.Decides.{nat_tests}
 use Rattle.book_model.specs.declared.Book.{Book}
 use Rattle.book_model.specs.Call.{Opening}
 use Rattle.lines.specs.Lines.{lines, line_at, end_of}
@@ -18,11 +18,7 @@ use Rattle.file_model.specs.Load.{Waiting, None, Waits, refused, none_left, begi
 
 -- no line is left at the file's end, and only there
 none_left_lem : (s : List ℕ) (at : ℕ) → at ≤ length s → none_left (lines (drop at s)) ≡ eqb at (length s)
-none_left_lem s at within = at-end (dec_lt at (length s))
-  where
-    at-end : Dec (at < length s) → none_left (lines (drop at s)) ≡ eqb at (length s)
-    at-end (yes h) = ap none_left (lines_at s at h) ∙ sym (ne_eqb at (length s) (omega arith))
-    at-end (no h) = ap none_left (lines_end s at (omega arith)) ∙ sym (eq-eqb at (length s) (omega arith))
+none_left_lem s at within = grind (arith, nat_tests, lines_at s at, lines_end s at)
 
 -- an opening that waits, at a line that doesn't begin with F
 opens-first : (before b : Book) (waiting : Waiting) (n : ℕ) (l : List ℕ) (ls : List (List ℕ)) → begins_with_f l ≡ false
@@ -71,10 +67,4 @@ module _ (s : List ℕ) (at n : ℕ) (before b : Book) where
   pub load-opens : (waiting : Waiting) → (at < length s → get_or s at 0 ≡ 70 → ⊥)
       → load_from before b waiting n (lines (drop at s)) ≡ after_open before b waiting (λ opened. load_from before opened None n (lines (drop at s)))
   unfolding load_from
-  load-opens waiting other = at-end (dec_lt at (length s))
-    where
-      at-end : Dec (at < length s) → load_from before b waiting n (lines (drop at s)) ≡ after_open before b waiting (λ opened. load_from before opened None n (lines (drop at s)))
-      at-end (yes h) =
-          let first : begins_with_f (line_at s at) ≡ false = ap (λ (x : ℕ). eqb x 70) (first_byte s at h) ∙ ne_eqb _ _ (other h) in
-          rw (lines_at s at h) (opens-first before b waiting n (line_at s at) (lines (drop (end_of s at) s)) first)
-      at-end (no h) = rw (lines_end s at (omega arith)) (opens-last before b waiting n)
+  load-opens waiting other = grind (arith, nat_tests, lines_at s at, lines_end s at, first_byte s at, opens-first, opens-last)

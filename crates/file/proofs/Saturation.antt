@@ -1,33 +1,26 @@
 -- A share that doesn't fit 32 bits: as the greatest that does, it leads to the same load.
 use Prim.Native.Nat.{ℕ, ◌+◌, ◌≤◌}
 use native.Mathlib.Omega.{arith}
-use mathlib.Core.Path.{◌≡◌, refl, sym, ap, ap₂, ◌∙◌}
+use mathlib.Core.Path.{◌≡◌, refl, ap, ap₂}
 use mathlib.Core.Bool.{cond}
 use mathlib.Core.List.{List, [], ◌∷◌, ◌++◌, map, map-append}
 use lib.ListN.{length}
-use borrow.Author.Tests.{le-ltb, lt-ltb}
+use Rattle.std.proofs.lemmas.Bool.Decides.{nat_tests}
 use Rattle.book_model.specs.declared.Book.{Book}
 use Rattle.book_model.specs.Calls.{opened_with}
 use Rattle.book_model.specs.Outcome.{Outcome as Result}
-use Rattle.book_model.specs.Open.{is_financing, opened}
-use Rattle.general_laws.specs.Sums.{total}
-use Rattle.general_laws.proofs.Choice.{by-test, by_order}
+use Rattle.book_model.specs.Open.{opened}
+use Rattle.std.specs.List.{sum}
+use Rattle.general_laws.proofs.Totals.{sum-cons}
 use Rattle.book_model.proofs.Callers.{financed}
-use Rattle.file_model.specs.Order.{Order, Open, Finance, Later, End, Malformed, order_in}
+use Rattle.file_model.specs.Order.{Order, order_in}
 use Rattle.file_model.specs.Load.{Outcome, Waiting, Waits, opening_with, after_call, begins_with_f, after_open, after_financing, load_from}
 use Rattle.file.specs.Turns.{saturated}
 
 -- Shares
 
-pub saturated-fits : (n : ℕ) → n ≤ 4294967295 → saturated n ≡ n
-saturated-fits n h = rw (le-ltb 4294967295 n h)
-
-pub saturated_beyond : (n : ℕ) → 4294967295 ≤ n → saturated n ≡ 4294967295
-saturated_beyond n h = by_order 4294967295 n (λ more. rw (lt-ltb 4294967295 n more)) (λ most. saturated-fits n most ∙ omega arith)
-
 saturated_again : (n : ℕ) → saturated (saturated n) ≡ saturated n
-saturated_again n =
-    by_order 4294967295 n (λ more. rw (lt-ltb 4294967295 n more)) (λ most. ap saturated (saturated-fits n most))
+saturated_again n = grind (arith, nat_tests)
 
 -- two lists of shares that are the same in 32 bits
 abbrev pub Alike : List ℕ → List ℕ → Type 0
@@ -41,39 +34,26 @@ alike_more ss ss' n e = rw (map-append saturated ss (n ∷ []), map-append satur
 
 -- where one of them makes a whole, no share is cut
 alike_share : (n m : ℕ) → n ≤ 1000000 → saturated n ≡ saturated m → n ≡ m
-alike_share n m h e =
-    let n-fits = saturated-fits n (omega arith) in
-    by_order 4294967295 m
-    (λ more. let m-beyond = saturated_beyond m (omega arith) in absurd (omega arith))
-    (λ most. let m-fits = saturated-fits m most in omega arith)
+alike_share n m h e = grind (arith, nat_tests)
 
-alike_shares : (ss ss' : List ℕ) → total ss ≤ 1000000 → Alike ss ss' → ss ≡ ss'
+alike_shares : (ss ss' : List ℕ) → sum ss ≤ 1000000 → Alike ss ss' → ss ≡ ss'
 alike_shares [] [] h e = refl
 alike_shares [] (m ∷ ms) h e = absurd (omega (arith, ap length e))
 alike_shares (n ∷ ns) [] h e = absurd (omega (arith, ap length e))
 alike_shares (n ∷ ns) (m ∷ ms) h e =
     let heads : saturated n ≡ saturated m = cc in
     let tails : Alike ns ms = cc in
-    let first = alike_share n m (omega arith) heads in
-    let rest = alike_shares ns ms (omega arith) tails in
+    let first = alike_share n m (omega (arith, sum-cons)) heads in
+    let rest = alike_shares ns ms (omega (arith, sum-cons)) tails in
     cc
 
 -- The opening, and the load behind it
-
-abbrev with_shares : Book → (first term annual cents : ℕ) → (hs ss : List ℕ) → Result (Unit {0})
-with_shares b first term annual cents hs ss = opened_with b (opening_with first term annual cents hs ss)
 
 module _ (b : Book) (first term annual cents : ℕ) where
   pub opened_alike : (hs ss ss' : List ℕ) → Alike ss ss'
       → opened_with b (opening_with first term annual cents hs ss) ≡ opened_with b (opening_with first term annual cents hs ss')
   unfolding opened
-  opened_alike hs ss ss' alike =
-      by-test (is_financing hs ss)
-      (λ right. ap (with_shares b first term annual cents hs) (alike_shares ss ss' (omega (arith, (financed hs ss right).shares_whole)) alike))
-      (λ wrong.
-      by-test (is_financing hs ss')
-      (λ right. ap (with_shares b first term annual cents hs) (sym (alike_shares ss' ss (omega (arith, (financed hs ss' right).shares_whole)) (sym alike))))
-      (λ wrong'. rw (wrong, wrong')))
+  opened_alike hs ss ss' alike = grind (arith, nat_tests, alike_shares ss ss', alike_shares ss' ss, financed hs ss, financed hs ss')
 
   module _ (before : Book) (line : ℕ) where
     after_open_alike : (hs ss ss' : List ℕ) → Alike ss ss' → (rest : Book → Outcome)
@@ -89,11 +69,7 @@ module _ (b : Book) (first term annual cents : ℕ) where
         → after_financing before (Waits line (opening_with first term annual cents hs ss)) n order rest
         ≡ after_financing before (Waits line (opening_with first term annual cents hs ss')) n order rest
     unfolding after_financing
-    after_financing_alike hs ss ss' n (Open d t a c) rest same = refl
-    after_financing_alike hs ss ss' n (Finance h s) rest same = rw (same h s)
-    after_financing_alike hs ss ss' n (Later k) rest same = refl
-    after_financing_alike hs ss ss' n (End count) rest same = refl
-    after_financing_alike hs ss ss' n Malformed rest same = refl
+    after_financing_alike hs ss ss' n order rest same = grind (arith, same)
 
     end_alike : (hs ss ss' : List ℕ) → Alike ss ss' → (n : ℕ)
         → load_from before b (Waits line (opening_with first term annual cents hs ss)) n []

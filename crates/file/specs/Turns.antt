@@ -1,5 +1,5 @@
 -- What the parts of the load do. Private contracts alone cite this: nobody has to believe it.
-use Rattle.std.specs.Prelude.{ℕ, ◌-◌, ◌≤◌, ◌≡◌, Result, Ok, Err, Bool, cond, [], ltb, take, drop}
+use Rattle.std.specs.Prelude.{ℕ, ◌-◌, ◌≤◌, ◌≡◌, Result, Ok, Err, Bool, cond, [], ltb, drop}
 use Rattle.book_model.specs.declared.Book.{Book}
 use Rattle.book_model.specs.declared.Refusal.{Refusal}
 use Rattle.line.specs.declared.Fields.{Fields}
@@ -48,7 +48,7 @@ pub record Moves (old new : Lines) : Type 0 where
 -- what is left behind the F lines of an opening, whose holders and shares were gathered
 abbrev pub gathered : (before b : Book) → (line first term annual cents : ℕ) → Lines → Result Financing LoadFault → Outcome
 gathered before b line first term annual cents l (Ok g) =
-    after_open before b (Waits line (opening_with first term annual cents (take g.count g.holders) (take g.count g.shares))) (λ opened. left before opened None l)
+    after_open before b (Waits line (opening_with first term annual cents g.holders.items g.shares.items)) (λ opened. left before opened None l)
 gathered before b line first term annual cents l (Err fault) = refused before fault.line fault.refusal
 
 pub record Gathers (old new : Lines) (answer : Result Financing LoadFault) : Type 0 where

@@ -6,7 +6,7 @@ ghost use Rattle.file.specs.Turns.{by_line, stopped, Ends, Moves, Opens, Obeys};
 
 use crate::financing::gather;
 use crate::reading::Lines;
-use book::{Called, Cents, Day, Parts, ReachedBook, Refusal};
+use book::{Called, Cents, Day, Opening, Parts, ReachedBook, Refusal};
 use file_model::{LoadFault, LoadRefusal, line_named};
 use line::Fields;
 use std::ops::Range;
@@ -15,31 +15,29 @@ use std::ops::Range;
 fn by_line<T: Drop>(line: usize, answer: Result<T, Refusal>) -> Result<(), LoadFault>
     ensures { result ≡ by_line line answer }
 {
-    match answer {
-        Ok(_) => Ok(()),
-        Err(refusal) => Err(LoadFault {
-            refusal: refusal.into(),
-            line,
-        }),
-    }
+    answer.map(|_| ()).map_err(|refusal| LoadFault {
+        refusal: refusal.into(),
+        line,
+    })
 }
 
 // An O line, read last, with the F lines behind it.
+#[tactic(auto, using(crate::proofs::CallAnswers::opens))]
 fn open(book: &mut ReachedBook, order: Fields, lines: &mut Lines) -> Result<(), LoadFault>
     ensures opened { Opens order.date order.first order.second order.third lines.old lines.new book.old.book book.new.book result }
     ensures moved { Moves lines.old lines.new }
 {
     let line = lines.read;
     let financing = gather(lines)?;
-    let opened = book::open_book_in_place(
-        book,
-        order.date,
-        Day(order.first),
-        order.second as u64,
-        Cents(order.third),
-        &financing.holders[..financing.count],
-        &financing.shares[..financing.count],
-    );
+    let opening = Opening {
+        first: order.date,
+        term: Day(order.first),
+        annual: order.second.into(),
+        cents: Cents(order.third),
+        holders: &financing.holders,
+        shares: &financing.shares,
+    };
+    let opened = book::open_book_in_place(book, opening);
     by_line(line, opened)
 }
 
@@ -59,29 +57,29 @@ fn end(count: u64, lines: &Lines) -> Result<usize, LoadFault>
 }
 
 // A line other than E, read last, and the F lines behind an O line. Each call has arguments of its own, so the letters are told apart here.
+#[tactic(auto, using(crate::proofs::CallAnswers::obeys))]
 fn obey(book: &mut ReachedBook, order: Fields, lines: &mut Lines) -> Result<(), LoadFault>
     requires { (0 < lines.old.read) × (order.letter ≢ 69) }
     ensures obeyed { Obeys order lines.old lines.new book.old.book book.new.book result }
     ensures moved { Moves lines.old lines.new }
 {
+    let line = lines.read;
     match order.letter {
-        b'D' => by_line(lines.read, book::advance_in_place(book, order.date)),
-        b'R' => by_line(
-            lines.read,
-            book::rate_in_place(book, order.date, order.third),
-        ),
+        b'D' => by_line(line, book::advance_in_place(book, order.date)),
+        b'R' => by_line(line, book::rate_in_place(book, order.date, order.third)),
         b'T' => {
             let parts = Parts(order.third);
             let moved = book::transfer_in_place(book, order.first, order.second, parts);
-            by_line(lines.read, moved)
+            by_line(line, moved)
         }
-        b'S' => by_line(lines.read, book::settle_in_place(book, Cents(order.third))),
+        b'S' => by_line(line, book::settle_in_place(book, Cents(order.third))),
         b'O' => open(book, order, lines),
         _ => Err(lines.fault(LoadRefusal::Line)),
     }
 }
 
 // The lines of a file in turn, each on the book that the last one left, up to where the reader stands at the file's end.
+#[tactic(auto, using(crate::proofs::LoadLeft::load_steps))]
 fn load_lines(file: &[u8], book: &mut ReachedBook) -> Result<usize, LoadFault>
     ensures { stopped book.old.book result book.new.book ≡ load_of book.old.book file.now }
 {

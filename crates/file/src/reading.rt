@@ -4,7 +4,7 @@ ghost use Rattle.lines.specs.Lines.{line_at, end_of};
 ghost use Rattle.file.specs.Reading.{ReadAs};
 
 use file_model::{LoadFault, LoadRefusal};
-use line::Fields;
+use line::{Fields, Malformed};
 use lines::Reader;
 
 // A reader over a file, and how many lines it has read.
@@ -41,18 +41,17 @@ impl<'a> Lines<'a> {
     }
 
     // The next line's fields, or that it is malformed.
+    #[tactic(auto, using(crate::proofs::LinesLeft::line_ends))]
     pub fn next_line(&mut self) -> Result<Fields, LoadFault>
         requires { self.old.reader.at < length self.old.reader.file.now }
         ensures line { ReadAs self.new.read (line_at self.old.reader.file.now self.old.reader.at) result }
         ensures moved { (self.new.reader.file ≡ self.old.reader.file) × (self.new.reader.at ≡ end_of self.old.reader.file.now self.old.reader.at) }
         ensures counted { self.new.read ≡ self.old.read + 1 }
     {
-        let line = self.reader.next_line();
+        let malformed = self.next_fault(Malformed.into());
+        let line = self.reader.next_line().or(Err(malformed));
         self.read += 1;
-        match line {
-            Ok(fields) => Ok(fields),
-            Err(malformed) => Err(self.fault(malformed.into())),
-        }
+        line
     }
 
     // A fault of the line that was read last.

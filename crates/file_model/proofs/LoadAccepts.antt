@@ -1,6 +1,5 @@
 -- Lines whose calls are accepted in turn, and an E line with their count, are accepted; the first call that is refused decides.
 use Prim.Native.Nat.{ℕ, suc, ◌+◌, ◌≤◌, ◌<◌}
-use native.Mathlib.Nat.{suc-ne-zero}
 use native.Mathlib.Omega.{arith}
 use mathlib.Core.Path.{◌≡◌, refl, sym, ap, subst, ◌∙◌}
 use mathlib.Core.Bool.{true, false}
@@ -11,10 +10,10 @@ use Rattle.book_model.specs.declared.Book.{Book}
 use Rattle.book_model.specs.Book.{empty_book}
 use Rattle.book_model.specs.Call.{Opening, Call}
 use Rattle.book_model.specs.Calls.{opened_with, book_after, number_of, accepts, run}
-use Rattle.book_model.specs.Outcome as book-outcome
-use Rattle.general_laws.proofs.Choice.{both_true}
-use Rattle.book_model.proofs.Callers.{no_refusal_is_0, open_cases, Financed}
+use Rattle.std.proofs.lemmas.Bool.{and_parts}
+use Rattle.book_model.proofs.Callers.{Financed}
 use Rattle.conservation.specs.Conservation.{opening_of}
+use Rattle.conservation.proofs.Callers.{opening-is}
 use Rattle.lines.specs.Lines.{lines}
 use Rattle.file_model.specs.Order.{Order, Open, Finance, Later, End, order_in}
 use Rattle.file_model.specs.Load.{Outcome, None, Waits, accepted, refused_by, opening_with, with_holder, load_from, load_of}
@@ -58,11 +57,11 @@ module _ (before b : Book) (n : ℕ) (l : List ℕ) (ls : List (List ℕ)) where
 end_line : (before b : Book) (n count : ℕ) (ls : List (List ℕ)) → count ≡ n → map order_in ls ≡ End count ∷ []
     → load_from before b None n ls ≡ accepted count b
 unfolding load_from after_open after_line
-end_line before b n count [] right e = absurd (suc-ne-zero 0 cc)
+end_line before b n count [] right e = cc
 end_line before b n count (l ∷ []) right e =
     let is : order_in l ≡ End count = cc in
     rw (rw is at (order-begins l), is, eq-eqb count n right) (ap (λ (k : ℕ). accepted k b) (sym right))
-end_line before b n count (l ∷ m ∷ ls) right e = absurd (suc-ne-zero 0 cc)
+end_line before b n count (l ∷ m ∷ ls) right e = cc
 
 -- Lines in turn, where the lines `os` behind them come to the outcome `r`
 
@@ -72,9 +71,9 @@ module _ (before : Book) (os : List Order) (r : Outcome) where
       → load_from before b None n ls ≡ r
   unfolding all_accepted run
   calls_pass [] ls b n e all goes = goes n ls (omega arith) e
-  calls_pass (k ∷ ks) [] b n e all goes = absurd (suc-ne-zero 0 cc)
+  calls_pass (k ∷ ks) [] b n e all goes = cc
   calls_pass (k ∷ ks) (l ∷ ls) b n e all goes =
-      let both = both_true (accepts b k) (all_accepted (book_after b k) ks) all in
+      let both = and_parts (accepts b k) (all_accepted (book_after b k) ks) all in
       call_line before b n l ls k (cc) (eqb-true _ _ both.0)
       ∙ calls_pass ks ls (book_after b k) (n + 1) (cc) both.1 (λ m rest at. goes m rest (omega arith))
 
@@ -87,7 +86,7 @@ module _ (before : Book) (os : List Order) (r : Outcome) where
       subst (λ p. load_from before b (Waits line p) n ls ≡ r) (with_no_holder o) (goes n ls (omega arith) e)
   financing_pass [] (s ∷ ss) ls b line o n e same few goes = absurd (omega arith)
   financing_pass (h ∷ hs) [] ls b line o n e same few goes = absurd (omega arith)
-  financing_pass (h ∷ hs) (s ∷ ss) [] b line o n e same few goes = absurd (suc-ne-zero 0 cc)
+  financing_pass (h ∷ hs) (s ∷ ss) [] b line o n e same few goes = cc
   financing_pass (h ∷ hs) (s ∷ ss) (l ∷ ls) b line o n e same few goes =
       financing-line before b n l ls line o h s (cc) (omega arith)
       ∙ financing_pass hs ss ls b line (with_holder o h s) (n + 1) (cc) (omega arith) (omega (arith, length-append o.holders (h ∷ [])))
@@ -101,16 +100,13 @@ calls_begin (k ∷ ks) count l ls e = let is : order_in l ≡ Later k = cc in rw
 -- before it a waiting opening is called
 opening-runs : (before b : Book) (n line : ℕ) (o : Opening) (ks : List Call) (count : ℕ) (ls : List (List ℕ)) → map order_in ls ≡ call_lines ks count
     → (opened_with b o).answer.number ≡ 0 → load_from before b (Waits line o) n ls ≡ load_from before (opened_with b o).book None n ls
-opening-runs before b n line o [] count [] e zero = absurd (suc-ne-zero 0 cc)
-opening-runs before b n line o (k ∷ ks) count [] e zero = absurd (suc-ne-zero 0 cc)
+opening-runs before b n line o [] count [] e zero = cc
+opening-runs before b n line o (k ∷ ks) count [] e zero = cc
 opening-runs before b n line o ks count (l ∷ ls) e zero = opened-line before b n l ls line o (calls_begin ks count l ls e) zero
 
 -- an accepted opening has as many shares as holders, and no more than 64
 opening-financed : (o : Opening) → (opening_of o).answer.number ≡ 0 → Financed o.holders o.shares
-opening-financed o =
-    open_cases empty_book o.first (record { 0 = o.term }) o.annual (record { 0 = o.cents }) o.holders o.shares
-    (λ (r : book-outcome.Outcome (Unit {0})). r.answer.number ≡ 0 → Financed o.holders o.shares)
-    (λ r e. absurd (no_refusal_is_0 r e)) (λ right _. right.financing)
+opening-financed o = opening-is o (λ _. Financed o.holders o.shares) (λ right. right)
 
 -- The theorems
 
@@ -134,7 +130,7 @@ call-refused b s ks k os e all other =
   where
     refuses : (m : ℕ) (rest : List (List ℕ)) → m ≡ 0 + length ks → map order_in rest ≡ Later k ∷ os
         → load_from b (run b ks) None m rest ≡ refused_by b (length ks + 1) (number_of (run b ks) k)
-    refuses m [] at e = absurd (suc-ne-zero 0 cc)
+    refuses m [] at e = cc
     refuses m (l ∷ ls) at e =
         refused-line b (run b ks) m l ls k (cc) other ∙ ap (λ (line : ℕ). refused_by b line (number_of (run b ks) k)) (omega arith)
 
@@ -161,7 +157,7 @@ opening-accepted s o ks e zero all = load-lines empty_book s (rw e (omega arith)
         (λ m last until. end_line empty_book (run (opening_of o).book ks) m count last (omega arith))
 
     opens : (ls : List (List ℕ)) → map order_in ls ≡ opening_lines o ks count → load_from empty_book empty_book None 0 ls ≡ result
-    opens [] e = absurd (suc-ne-zero 0 cc)
+    opens [] e = cc
     opens (l ∷ ls) e =
         opening-line empty_book empty_book 0 l ls o.first o.term o.annual o.cents (cc)
         ∙ financing_pass empty_book (call_lines ks count) result o.holders o.shares ls empty_book 1

@@ -4,24 +4,24 @@ use mathlib.Core.Bool.{Bool, true, false, cond, not, ◌&&◌}
 use mathlib.Core.List.{List, [], ◌∷◌, ◌++◌}
 use Prim.Native.Nat.{ℕ, zero, suc, ◌+◌, ◌-◌, ◌≤◌, ◌<◌}
 use native.Mathlib.Omega.{arith}
-use lib.Dec.{eqb, leb}
+use lib.Dec.{eqb}
 use lib.ListN.{length, get_or, take, drop, length-append, length-drop, take-append-drop, get_or-append}
 use lib.Seq.{get_or-append-add}
-use borrow.Author.Tests.{eqb-true, eqb-false, not-false}
+use borrow.Author.Tests.{eqb-true, not-false}
 use Rattle.book_model.specs.declared.Book.{Book}
-use Rattle.book_model.specs.declared.Refusal.TheVariants as book-refusal
-use Rattle.book_model.specs.Calls.{opened_with, book_after, number_of}
+use Rattle.book_model.specs.Calls.{opened_with, book_after}
 use Rattle.line.specs.Field.{field_at, padded, justified}
 use Rattle.line.specs.Line.{uses_of, assembled_of, columns_of, line_of, malformed_number, no_fields}
 use Rattle.line.specs.Write.{field_bytes, bytes_under, line_bytes}
 use Rattle.lines.specs.Lines.{lines}
 use Rattle.lines.specs.LineParts.{concatenated}
 use Rattle.lines.proofs.Callers.{parts, lines-append, lines-some}
-use Rattle.file_model.specs.declared.LoadRefusal.{LoadRefusal}
 use Rattle.file_model.specs.declared.LoadRefusal.TheVariants as refusal
-use Rattle.file_model.specs.Load.{Outcome, Waiting, None, Waits, accepted, refused, refused_by, refusal_number, ended, after_call, after_open, after_financing, after_line, begins_with_f, none_left, load_from, load_of}
+use Rattle.book_model.specs.Call.{Opening}
+use Rattle.file_model.specs.Load.{Outcome, Waiting, None, Waits, accepted, refused, refused_by, ended, after_open, after_line, none_left, load_from, load_of}
 use Rattle.file_model.specs.Loads.{end_alone_file}
-use Rattle.file_model.specs.Order.{Order, Open, Finance, Later, End, Malformed, order_of, order_in}
+use Rattle.file_model.proofs.LoadCases.{Stops, by_both, end_waits, both_next, both_waits}
+use Rattle.file_model.specs.Order.{Order, End, Malformed, order_of, order_in}
 
 -- What is said of the outcome of lines that stand behind n others
 
@@ -51,40 +51,17 @@ abbrev Named : Waiting → ℕ → Type 0
 Named None n = Unit {0}
 Named (Waits line o) n = (1 ≤ line) × (line ≤ n)
 
-module _ (before : Book) (n : ℕ) (ls : List (List ℕ)) where
-  stopped : (line number : ℕ) (longer : Outcome) → (number ≡ 0 → ⊥) → 1 ≤ line → line ≤ n + length ls + 1
-      → Result before n ls (refused_by before line number) longer
-  stopped line number longer h a b =
-      turned (record { numbered = h; left = refl; uncounted = refl; first_or_later = a; last_or_earlier = b })
+turned_at : (before : Book) (n line number : ℕ) (ls : List (List ℕ)) → 0 < number → 1 ≤ line → line ≤ n + length ls + 1
+    → Turned before n ls (refused_by before line number)
+turned_at before n line number ls some first last =
+    record { numbered = λ e. omega arith; left = refl; uncounted = refl; first_or_later = first; last_or_earlier = last }
 
-  by-test : (t : Bool) (r r' q q' : Outcome) → (t ≡ true → Result before n ls r r') → (t ≡ false → Result before n ls q q')
-      → Result before n ls (cond t r q) (cond t r' q')
-  by-test true r r' q q' f g = f refl
-  by-test false r r' q q' f g = g refl
+-- A line, where the lines behind it are known, and with a line more behind those
 
-  after-call : (line number : ℕ) (b : Book) (rest longer : Book → Outcome) → 1 ≤ line → line ≤ n + length ls + 1
-      → Result before n ls (rest b) (longer b)
-      → Result before n ls (after_call before line number b rest) (after_call before line number b longer)
-  after-call line number b rest longer h g r =
-      by-test (eqb number 0) (rest b) (longer b) (refused_by before line number) (refused_by before line number)
-      (λ _. r) (λ e. stopped line number _ (eqb-false number 0 e) h g)
-
-  after_open_lem : (b : Book) (waiting : Waiting) (rest longer : Book → Outcome) → Named waiting n
-      → ((opened : Book) → Result before n ls (rest opened) (longer opened))
-      → Result before n ls (after_open before b waiting rest) (after_open before b waiting longer)
-  unfolding after_open
-  after_open_lem b None rest longer h r = r b
-  after_open_lem b (Waits line o) rest longer h r =
-      after-call line (opened_with b o).answer.number (opened_with b o).book rest longer h.0 (omega arith) (r (opened_with b o).book)
-
--- no line at all is no E line
-nothing-taken : (before : Book) (n : ℕ) (r longer : Outcome) → Result before n [] r longer → Turned before n [] r
-nothing-taken before n r longer (taken k t) = absurd (omega (arith, t.is_last))
-nothing-taken before n r longer (turned t) = t
-
--- One line, and the lines behind it
-
-module _ (before : Book) (n : ℕ) (l : List ℕ) (ls : List (List ℕ)) where
+module _ (before : Book) (l : List ℕ) (ls : List (List ℕ)) (m : List ℕ) (ms : List (List ℕ))
+    (rest : (b : Book) (waiting : Waiting) (n : ℕ) → Named waiting n
+    → Result before n ls (load_from before b waiting n ls) (load_from before b waiting n (ls ++ m ∷ ms)))
+    (n : ℕ) where
   behind : (r longer : Outcome) → Result before (n + 1) ls r longer → Result before n (l ∷ ls) r longer
   behind r longer (taken k t) =
       taken (suc k)
@@ -106,29 +83,18 @@ module _ (before : Book) (n : ℕ) (l : List ℕ) (ls : List (List ℕ)) where
         last_or_earlier = omega (arith, t.last_or_earlier);
       })
 
-  line_refused : (r : LoadRefusal) (longer : Outcome) → (refusal_number r ≡ 0 → ⊥) → Result before n (l ∷ ls) (refused before (n + 1) r) longer
-  line_refused r longer h = stopped before n (l ∷ ls) (n + 1) (refusal_number r) longer h (omega arith) (omega arith)
+  -- what is said of the lines, by what this one orders
+  abbrev ResultBy : Order → Outcome → Outcome → Type 0
+  ResultBy order r longer = order_in l ≡ order → Result before n (l ∷ ls) r longer
 
-  after-financing : (waiting : Waiting) (order : Order) (rest longer : Waiting → Outcome) → Named waiting n
-      → ((next : Waiting) → Named next (n + 1) → Result before (n + 1) ls (rest next) (longer next))
-      → Result before n (l ∷ ls) (after_financing before waiting (n + 1) order rest) (after_financing before waiting (n + 1) order longer)
-  unfolding after_financing
-  after-financing None order rest longer h r = line_refused refusal.Line _ (omega arith)
-  after-financing (Waits line o) (Open first term annual cents) rest longer h r = line_refused refusal.Line _ (omega arith)
-  after-financing (Waits line o) (Finance holder share) rest longer h r =
-      by-test before n (l ∷ ls) (leb 64 (length o.holders)) _ _ _ _
-      (λ _. line_refused (refusal.Call book-refusal.Financing) _ (omega arith))
-      (λ _. behind _ _ (r _ (h.0, omega arith)))
-  after-financing (Waits line o) (Later k) rest longer h r = line_refused refusal.Line _ (omega arith)
-  after-financing (Waits line o) (End count) rest longer h r = line_refused refusal.Line _ (omega arith)
-  after-financing (Waits line o) Malformed rest longer h r = line_refused refusal.Line _ (omega arith)
+  stops : (order : Order) (line : ℕ) → 1 ≤ line → line ≤ n + 1 → Stops before (ResultBy order) line
+  stops order line first last number some _ _ = turned (turned_at before n line number (l ∷ ls) some first (omega arith))
 
   -- E as the last line is accepted, if its count is right; with a line more behind it, that line is at fault
-  at-end : (b : Book) (count : ℕ) (m : List ℕ) (ms : List (List ℕ)) → order_in l ≡ End count
-      → Result before n (l ∷ ls) (ended before b n count (none_left ls)) (ended before b n count (none_left (ls ++ m ∷ ms)))
-  at-end b count m ms e =
-      by-test before n (l ∷ ls) (not (eqb count n)) _ _ _ _
-      (λ _. line_refused refusal.Unfinished _ (omega arith))
+  at-end : (b : Book) (count : ℕ) → ResultBy (End count) (ended before b n count (none_left ls)) (ended before b n count (none_left (ls ++ m ∷ ms)))
+  at-end b count e =
+      by_both (Result before n (l ∷ ls)) (not (eqb count n))
+      (λ _. turned (turned_at before n (n + 1) 22 (l ∷ ls) (omega arith) (omega arith) (omega arith)))
       (λ t. last_or_not ls (eqb-true count n (not-false _ t)))
     where
       last_or_not : (xs : List (List ℕ)) → count ≡ n
@@ -145,43 +111,42 @@ module _ (before : Book) (n : ℕ) (l : List ℕ) (ls : List (List ℕ)) where
             is-end = e ∙ ap End (omega arith);
             longer_refused = ap (λ (line : ℕ). refused before line refusal.Unfinished) (omega arith);
           })
-      last_or_not (x ∷ xs) c = stopped before n (l ∷ x ∷ xs) (n + 2) 22 _ (omega arith) (omega arith) (omega arith)
+      last_or_not (x ∷ xs) c = turned (turned_at before n (n + 2) 22 (l ∷ x ∷ xs) (omega arith) (omega arith) (omega arith))
 
-  after_line_lem : (b : Book) (order : Order) (rest longer : Book → Waiting → Outcome) (m : List ℕ) (ms : List (List ℕ))
-      → order_in l ≡ order
-      → ((after : Book) (next : Waiting) → Named next (n + 1) → Result before (n + 1) ls (rest after next) (longer after next))
-      → Result before n (l ∷ ls) (after_line before b n order (none_left ls) rest) (after_line before b n order (none_left (ls ++ m ∷ ms)) longer)
-  unfolding after_line
-  after_line_lem b (Open first term annual cents) rest longer m ms e r = behind _ _ (r b _ (omega arith, omega arith))
-  after_line_lem b (Finance holder share) rest longer m ms e r = line_refused refusal.Line _ (omega arith)
-  after_line_lem b (Later k) rest longer m ms e r =
-      after-call before n (l ∷ ls) (n + 1) (number_of b k) (book_after b k) (λ after. rest after None) (λ after. longer after None)
-      (omega arith) (omega arith) (behind _ _ (r (book_after b k) None tt))
-  after_line_lem b (End count) rest longer m ms e r = at-end b count m ms e
-  after_line_lem b Malformed rest longer m ms e r = line_refused refusal.Line _ (omega arith)
+  next-result : (b : Book) → Result before n (l ∷ ls) (load_from before b None n (l ∷ ls)) (load_from before b None n (l ∷ ls ++ m ∷ ms))
+  next-result b =
+      both_next before n l ls (ls ++ m ∷ ms) ResultBy (λ order. stops order (n + 1) (omega arith) (omega arith)) b
+      (λ first term annual cents _. behind _ _ (rest b (Waits (n + 1) _) (n + 1) (omega arith)))
+      (λ k _ _. behind _ _ (rest (book_after b k) None (n + 1) tt))
+      (at-end b) refl
+
+  waits-result : (b : Book) (line : ℕ) (o : Opening) → Named (Waits line o) n
+      → Result before n (l ∷ ls) (load_from before b (Waits line o) n (l ∷ ls)) (load_from before b (Waits line o) n (l ∷ ls ++ m ∷ ms))
+  waits-result b line o named =
+      both_waits before n l ls (ls ++ m ∷ ms) ResultBy (λ order. stops order (n + 1) (omega arith) (omega arith)) b line o
+      (λ h s _. behind _ _ (rest b (Waits line _) (n + 1) (omega arith)))
+      (stops _ line named.0 (omega arith)) (λ _ _. next-result (opened_with b o).book) refl
 
 -- All lines
 
+missing : (before : Book) (n : ℕ) → Turned before n [] (refused_by before (n + 1) 22)
+missing before n = turned_at before n (n + 1) 22 [] (omega arith) (omega arith) (omega arith)
+
 results : (before b : Book) (waiting : Waiting) (n : ℕ) (ls : List (List ℕ)) (m : List ℕ) (ms : List (List ℕ)) → Named waiting n
     → Result before n ls (load_from before b waiting n ls) (load_from before b waiting n (ls ++ m ∷ ms))
-unfolding load_from
-results before b waiting n [] m ms h =
+unfolding load_from after_open
+results before b None n [] m ms named = turned (missing before n)
+results before b (Waits line o) n [] m ms named =
     turned
-    (nothing-taken before n _ _
-    (after_open_lem before n [] b waiting (λ _. refused before (n + 1) refusal.Unfinished) (λ _. refused before (n + 1) refusal.Unfinished) h
-    (λ _. stopped before n [] (n + 1) 22 _ (omega arith) (omega arith) (omega arith))))
-results before b waiting n (l ∷ ls) m ms h =
-    by-test before n (l ∷ ls) (begins_with_f l) _ _ _ _
-    (λ _. after-financing before n l ls waiting (order_in l) _ _ h (λ next g. results before b next (n + 1) ls m ms g))
-    (λ _. after_open_lem before n (l ∷ ls) b waiting _ _ h
-    (λ opened. after_line_lem before n l ls opened (order_in l) _ _ m ms refl
-    (λ after next g. results before after next (n + 1) ls m ms g)))
+    (end_waits before (λ r _. Turned before n [] r) b line o n (λ number some _. turned_at before n line number [] some named.0 (omega arith)) (missing before n))
+results before b None n (l ∷ ls) m ms named = next-result before l ls m ms (λ b waiting n. results before b waiting n ls m ms) n b
+results before b (Waits line o) n (l ∷ ls) m ms named = waits-result before l ls m ms (λ b waiting n. results before b waiting n ls m ms) n b line o named
 
 -- The whole file
 
 of_file : (b : Book) (s : List ℕ) (m : List ℕ) (ms : List (List ℕ)) → Result b 0 (lines s) (load_of b s) (load_from b b None 0 (lines s ++ m ∷ ms))
 unfolding load_of lines
-of_file b [] m ms = stopped b 0 [] 1 20 _ (omega arith) (omega arith) (omega arith)
+of_file b [] m ms = turned (turned_at b 0 1 20 [] (omega arith) (omega arith) (omega arith))
 of_file b (x ∷ s) m ms = results b b None 0 (lines (x ∷ s)) m ms tt
 
 -- an accepted file's last line, which has `count` before it
@@ -244,8 +209,8 @@ end-fed l count h = by_form (eqb (length l) 43) (eqb (get_or l 42 0) 10) refl re
         → cond (eqb (cond (t && u) (columns_of l) (malformed_number, no_fields)).0 0) (order_of (cond (t && u) (columns_of l) (malformed_number, no_fields)).1) Malformed
         ≡ End count → Fed l
     by_form true true p q e = record { whole = eqb-true _ _ p; fed = eqb-true _ _ q }
-    by_form true false p q e = let z : ◌≡◌ {A = ℕ} 0 1 = cc in absurd (omega arith)
-    by_form false u p q e = let z : ◌≡◌ {A = ℕ} 0 1 = cc in absurd (omega arith)
+    by_form true false p q e = cc
+    by_form false u p q e = cc
 
 last-fed : (ls : List (List ℕ)) (k : ℕ) → length ls ≡ suc k → Fed (get_or ls k [])
     → (0 < length (concatenated ls)) × (get_or (concatenated ls) (length (concatenated ls) - 1) 0 ≡ 10)

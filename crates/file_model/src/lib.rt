@@ -69,10 +69,7 @@ impl Numbered for LoadFault {
 pub fn line_named(answer: Result<usize, LoadFault>) -> usize
     ensures { result ≡ line_named answer }
 {
-    match answer {
-        Ok(_) => 0,
-        Err(fault) => fault.line,
-    }
+    answer.err().map_or(0, |fault| fault.line)
 }
 
 // What holds of every file and book: which book an accepted file leaves, and that a cut-off one is refused. And document 01's example file.

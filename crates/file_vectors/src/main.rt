@@ -37,12 +37,12 @@ fn put_answer(rt: &impl Print, file: &[u8], answer: Result<usize, LoadFault>) {
     let _ = println!(rt; "{} {} {digest}", part.start, part.end);
 }
 
-fn load(rt: &impl Print, book: ReachedBook, file: &[u8]) -> ReachedBook {
-    let loaded = file::load(file, book);
+fn load(rt: &impl Print, book: &mut ReachedBook, file: &[u8]) {
+    let loaded = file::load(file, *book);
+    *book = loaded.book;
     put_answer(rt, file, loaded.answer);
-    put_totals(rt, &loaded.book);
-    put_positions(rt, &loaded.book);
-    loaded.book
+    put_totals(rt, book);
+    put_positions(rt, book);
 }
 
 // Writes a line into a buffer, and prints its number and the buffer's digest.
@@ -54,7 +54,7 @@ fn write(rt: &impl Print, cases: &mut Cases) {
         second: cases.number_u32(),
         third: cases.number(),
     };
-    let size = BUFFER.min(cases.number() as usize);
+    let size = cases.count(BUFFER);
     let mut buffer = [0u8; BUFFER];
     fill(&mut buffer);
     let answer = write_line(&mut buffer[..size], fields);
@@ -72,18 +72,17 @@ fn read(rt: &impl Print, line: &[u8]) {
 }
 
 // One case: 0 is a new book, 1 a load, 2 a line written, and any other a line read. The numbers are the input's and told apart once, here, so no
-// enum stands between. It answers the book after it.
-fn run_case(rt: &impl Print, book: ReachedBook, cases: &mut Cases) -> ReachedBook {
+// enum stands between.
+fn run_case(rt: &impl Print, book: &mut ReachedBook, cases: &mut Cases) {
     match cases.number() {
         0 => {
             let _ = println!(rt; "0");
-            return ReachedBook::empty();
+            *book = ReachedBook::empty();
         }
-        1 => return load(rt, book, cases.bytes()),
+        1 => load(rt, book, cases.bytes()),
         2 => write(rt, cases),
         _ => read(rt, cases.bytes()),
     }
-    book
 }
 
 fn main(rt: HostRuntime) -> io::Result<()> {
@@ -91,7 +90,7 @@ fn main(rt: HostRuntime) -> io::Result<()> {
     let mut cases = Cases::read(&mut rt.stdin(), &mut buffer)?;
     let mut book = ReachedBook::empty();
     for _ in 0..cases.number() {
-        book = run_case(&rt, book, &mut cases);
+        run_case(&rt, &mut book, &mut cases);
     }
     Ok(())
 }

@@ -16,10 +16,10 @@ below a (suc b) n h l =
     choice (λ z. mag z < n) (ltb a (suc b)) {a = negsuc (suc b - suc a)} {b = pos (a - suc b)} (λ _. omega arith) (λ _. omega arith)
 
 module _ (a b : ℕ) (h : a < 2 ^ 63) (l : b < 2 ^ 63) where
-  pub difference : to_z w64 a -ℤ to_z w64 b ≡ pos a -ℤ pos b
+  difference : to_z w64 a -ℤ to_z w64 b ≡ pos a -ℤ pos b
   difference = ap₂ ◌-ℤ◌ (to_z_pos w64 {n = a} (omega arith)) (to_z_pos w64 {n = b} (omega arith))
 
-  pub difference-fits : SFits w64 (to_z w64 a -ℤ to_z w64 b)
+  difference-fits : SFits w64 (to_z w64 a -ℤ to_z w64 b)
   difference-fits = rw difference (record { sfits = below a b (2 ^ 63) (omega arith) (omega arith) })
 
   pub difference-is : to_z w64 (of_z w64 (to_z w64 a -ℤ to_z w64 b)) ≡ pos a -ℤ pos b

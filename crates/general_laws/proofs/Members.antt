@@ -2,20 +2,22 @@
 use Prim.Native.Nat.{ℕ, ◌+◌}
 use native.Mathlib.Omega.{arith}
 use mathlib.Core.Path.{◌≡◌, refl, sym, ap, ap₂, ◌∙◌}
-use mathlib.Core.Bool.{Bool, true, false, cond, not, ◌||◌, or-true, or-false, or_assoc}
+use mathlib.Core.Bool.{Bool, true, false, cond, not, ◌||◌, or-true, or-false}
 use mathlib.Core.List.{List, [], ◌∷◌, ◌++◌, map}
 use borrow.Author.Tests.{eqb-true, eqb-false, eq-eqb, ne_eqb, not-true}
 use lib.Dec.{eqb}
-use Rattle.general_laws.specs.Sums.{total}
-use Rattle.general_laws.specs.Members.{among, all, distinct}
-use Rattle.general_laws.proofs.Choice.{true_not_false, both_true, neither_true}
+use Rattle.std.specs.List.{sum}
+use Rattle.std.proofs.lemmas.List.Folds.{list_any-append}
+use Rattle.general_laws.specs.Members.{among, distinct}
+use Rattle.std.proofs.lemmas.Bool.{and_parts, or_parts}
+use Rattle.general_laws.proofs.Totals.{sum-cons}
 
 -- Members
 
 -- a member is none that is not one
 pub member_other : (x y : ℕ) (ns : List ℕ) → among y ns ≡ false → among x ns ≡ true → eqb y x ≡ false
 member_other x y ns away here =
-    ne_eqb y x (λ e. true_not_false (among x ns) here (ap (λ (k : ℕ). among k ns) (sym e) ∙ away))
+    ne_eqb y x (λ e. cc (ap (λ (k : ℕ). among k ns) e))
 
 -- functions that agree on the members
 pub map_same : {A : Type 0} (ns : List ℕ) (f g : ℕ → A) → ((n : ℕ) → among n ns ≡ true → f n ≡ g n) → map f ns ≡ map g ns
@@ -26,24 +28,18 @@ map_same {A} (x ∷ ns) f g e =
 
 -- of distinct ones, the first is not among the others, and these are distinct
 pub first-apart : (x : ℕ) (ns : List ℕ) → distinct (x ∷ ns) ≡ true → (among x ns ≡ false) × (distinct ns ≡ true)
-first-apart x ns d = let h = both_true (not (among x ns)) (distinct ns) d in (not-true (among x ns) h.0, h.1)
+first-apart x ns d = let h = and_parts (not (among x ns)) (distinct ns) d in (not-true (among x ns) h.0, h.1)
 
 -- One number more, at the end
 
 pub among-joined : (a x : ℕ) (ns : List ℕ) → among x (ns ++ (a ∷ [])) ≡ among x ns || eqb a x
-among-joined a x [] = or-false (eqb a x)
-among-joined a x (y ∷ ns) =
-    ap (λ (t : Bool). eqb y x || t) (among-joined a x ns) ∙ sym (or_assoc (eqb y x) (among x ns) (eqb a x))
-
-pub all-last : (t : ℕ → Bool) (ns : List ℕ) (n : ℕ) → all t ns ≡ true → t n ≡ true → all t (ns ++ (n ∷ [])) ≡ true
-all-last t [] n e f = rw f
-all-last t (m ∷ ns) n e f = let h = both_true (t m) (all t ns) e in rw h.0 (all-last t ns n h.1 f)
+among-joined a x ns = list_any-append (λ m. eqb m x) ns (a ∷ []) ∙ ap (λ (t : Bool). among x ns || t) (or-false (eqb a x))
 
 pub distinct-last : (ns : List ℕ) (n : ℕ) → distinct ns ≡ true → among n ns ≡ false → distinct (ns ++ (n ∷ [])) ≡ true
 distinct-last [] n e f = refl
 distinct-last (m ∷ ns) n e f =
     let h = first-apart m ns e in
-    let g = neither_true (eqb m n) (among n ns) f in
+    let g = or_parts (eqb m n) (among n ns) f in
     let other : eqb n m ≡ false = ne_eqb n m (λ q. eqb-false m n g.0 (sym q)) in
     rw (among-joined n m ns, h.0, other) (distinct-last ns n h.1 g.1)
 
@@ -53,16 +49,16 @@ module _ (x n : ℕ) where
   abbrev pub only_at : ℕ → ℕ
   only_at h = cond (eqb h x) n 0
 
-  total_nowhere : (ns : List ℕ) → among x ns ≡ false → total (map only_at ns) ≡ 0
+  total_nowhere : (ns : List ℕ) → among x ns ≡ false → sum (map only_at ns) ≡ 0
   total_nowhere [] e = refl
-  total_nowhere (y ∷ ns) e = let m = neither_true (eqb y x) (among x ns) e in rw (m.0, total_nowhere ns m.1)
+  total_nowhere (y ∷ ns) e = let m = or_parts (eqb y x) (among x ns) e in rw (sum-cons, m.0, total_nowhere ns m.1)
 
-  pub total-at : (ns : List ℕ) → distinct ns ≡ true → among x ns ≡ true → total (map only_at ns) ≡ n
-  total-at [] d m = true_not_false false m refl
-  total-at (y ∷ ns) d m = go (eqb y x) refl (total-at ns (first-apart y ns d).1) m
+  pub total-at : (ns : List ℕ) → distinct ns ≡ true → among x ns ≡ true → sum (map only_at ns) ≡ n
+  total-at [] d m = cc
+  total-at (y ∷ ns) d m = rw sum-cons (go (eqb y x) refl (total-at ns (first-apart y ns d).1) m)
     where
-      go : (t : Bool) → eqb y x ≡ t → (among x ns ≡ true → total (map only_at ns) ≡ n) → t || among x ns ≡ true
-          → cond t n 0 + total (map only_at ns) ≡ n
+      go : (t : Bool) → eqb y x ≡ t → (among x ns ≡ true → sum (map only_at ns) ≡ n) → t || among x ns ≡ true
+          → cond t n 0 + sum (map only_at ns) ≡ n
       go true e ih q =
           let away : among x ns ≡ false = ap (λ (k : ℕ). among k ns) (sym (eqb-true y x e)) ∙ (first-apart y ns d).0 in
           omega (arith, total_nowhere ns away)

@@ -1,7 +1,7 @@
 -- Powers of numbers, and numbers below a power.
 use Prim.Native.Nat.{ℕ, zero, suc, ◌+◌, ◌*◌, ◌/◌, ◌%◌, ◌^◌, ◌≤◌, ◌<◌}
-use native.Mathlib.Nat.{pow-zero, pow-suc, pow-succ', one-le-pow, le-mul_of_pos_right, div-lt_iff_lt-mul, mul-mul-mul_comm, mul_left_comm, mul-add, mul-one, mul-add-mod_self_left}
-use mathlib.Core.Path.{◌≡◌, refl, sym, ◌∙◌, ap}
+use native.Mathlib.Nat.{pow-zero, pow-suc, pow-succ', one-le-pow, le-mul_of_pos_right, div-lt_iff_lt-mul, mul_left_comm, mul-add, mul-one, mul-add-mod_self_left}
+use mathlib.Core.Path.{◌≡◌, refl, ◌∙◌, ap}
 
 pub quotient-below : (k n w : ℕ) → 0 < k → n < k ^ suc w → n / k < k ^ w
 quotient-below k n w pos h = (div-lt_iff_lt-mul {k = k} pos).1 (rw pow-suc at h)
@@ -9,12 +9,6 @@ quotient-below k n w pos h = (div-lt_iff_lt-mul {k = k} pos).1 (rw pow-suc at h)
 -- a positive number is at most any of its powers but the first
 pub below_power : (n k : ℕ) → 0 < n → n ≤ n ^ suc k
 below_power n k h = rw pow-succ' (le-mul_of_pos_right n (one-le-pow k n h))
-
-pub product_power : (a b n : ℕ) → (a * b) ^ n ≡ a ^ n * b ^ n
-product_power a b zero = rw (pow-zero (a * b), pow-zero a, pow-zero b) refl
-product_power a b (suc n) =
-    pow-suc (a * b) n ∙ ap (λ (x : ℕ). x * (a * b)) (product_power a b n) ∙ mul-mul-mul_comm (a ^ n) (b ^ n) a b
-    ∙ ap (λ (x : ℕ). x * (b ^ n * b)) (sym (pow-suc a n)) ∙ ap (λ (x : ℕ). a ^ suc n * x) (sym (pow-suc b n))
 
 -- every power of an odd number is odd
 pub odd_power : (m k : ℕ) → (2 * m + 1) ^ k % 2 ≡ 1

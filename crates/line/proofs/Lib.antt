@@ -9,5 +9,4 @@ mod LineRoundTrip
 mod LineRefusals
 mod LineReading
 mod Examples
-mod NumberPut
 pub mod Callers

@@ -7,11 +7,12 @@ use native.Mathlib.Omega.{arith}
 use lib.Dec.{leb, eqb}
 use lib.ListN.{length, get_or, take, drop, drop_of_length-le}
 use lib.Seq.{take_at, get_or-drop, drop-cons}
-use borrow.Author.Tests.{ltb-true, lt-ltb, le-leb, eqb-true, eq-eqb}
+use borrow.Author.Tests.{ltb-true, le-leb, eqb-true}
+use Rattle.std.proofs.lemmas.Bool.Decides.{nat_tests}
 use Rattle.general_laws.proofs.Choice.{FourTrue, four_true}
 use Rattle.general_laws.proofs.Parts.{part_followed, part-passed}
 use Rattle.line.specs.declared.Fields.{Fields}
-use Rattle.std.specs.Prelude.{Option, Some, None, Ok, Err}
+use Rattle.std.specs.Prelude.{Option, Some, None}
 use Rattle.line.specs.declared.line.Uses.{Uses}
 use Rattle.line.specs.Field.{Field, blank, field_at}
 use Rattle.line.proofs.FieldBounds.{Below}
@@ -129,11 +130,7 @@ module _ (u : Uses) (f : Fields) (h : fits_all (Some u) f ≡ true) where
 
 pub line_reads : (f : Fields) → writable f ≡ true → line_of (line_bytes f) ≡ (0, f)
 unfolding writable fits_all line_bytes bytes_under columns_of line_of
-line_reads f h = go (uses_of f.letter) refl h
-  where
-    go : (o : Option Uses) → uses_of f.letter ≡ o → fits_all o f ≡ true → line_of (line_bytes f) ≡ (0, f)
-    go (Some u) e k = simp (e, eq-eqb _ _ (long u f k), eq-eqb _ _ (feed u f k)) (assembled_back u f k)
-    go None e k = absurd (false≢true k)
+line_reads f h = grind (arith, nat_tests, long, feed, assembled_back)
 
 -- Read, then written
 
@@ -141,23 +138,10 @@ line_reads f h = go (uses_of f.letter) refl h
 field_written : (s : List ℕ) (at : ℕ) (u : Bool) (w : ℕ) → at + w ≤ length s → proper u (field_at s at w) ≡ true
     → take w (drop at s) ≡ field_bytes u w (number_of (field_at s at w))
 unfolding field_bytes
-field_written s at u w le h = go u (field_at s at w) refl h
-  where
-    go : (t : Bool) (x : Field) → field_at s at w ≡ x → proper t x ≡ true → take w (drop at s) ≡ field_bytes t w (number_of x)
-    go true (Ok None) e k = absurd (false≢true k)
-    go true (Ok (Some n)) e k = number_same s at w n le e
-    go true (Err _) e k = absurd (false≢true k)
-    go false (Ok None) e k = blank_same s at w le e
-    go false (Ok (Some n)) e k = absurd (false≢true k)
-    go false (Err _) e k = absurd (false≢true k)
+field_written s at u w le h = grind (arith, nat_tests, number_same, blank_same)
 
 proper-fits : (u : Bool) (x : Field) (k : ℕ) → Below x k → proper u x ≡ true → fits u k (number_of x) ≡ true
-proper-fits true (Ok None) k b h = absurd (false≢true h)
-proper-fits true (Ok (Some n)) k b h = lt-ltb n k b
-proper-fits true (Err _) k b h = absurd (false≢true h)
-proper-fits false (Ok None) k b h = refl
-proper-fits false (Ok (Some n)) k b h = absurd (false≢true h)
-proper-fits false (Err _) k b h = absurd (false≢true h)
+proper-fits u x k b h = grind (arith, nat_tests)
 
 module _ (s : List ℕ) where
   abbrev letter : ℕ

@@ -4,12 +4,11 @@ use mathlib.Core.Bool.{Bool, true, false, cond, ◌&&◌}
 use mathlib.Core.List.{List, ◌++◌}
 use Prim.Native.Nat.{ℕ, ◌+◌, ◌≤◌}
 use native.Mathlib.Omega.{arith}
-use lib.ListN.{length, set, take, drop, length-append, length-drop}
-use lib.Seq.{sets, sets-eq, length-take-le}
+use lib.ListN.{length, set, take, drop, length-append, length-drop, length-set}
+use lib.Seq.{sets, sets-eq, length-sets, length-take-le}
 use lib.Dec.{leb}
-use borrow.Author.Tests.{le-leb, leb-true}
 use borrow.Rule.Slice.PartMut.{put_mid}
-use Rattle.std.specs.Prelude.{Some}
+use Rattle.std.proofs.lemmas.Bool.Decides.{nat_tests}
 use Rattle.general_laws.proofs.Stores.{sets_append_at}
 use Rattle.line.specs.declared.Fields.{Fields}
 use Rattle.line.specs.declared.line.Uses.{Uses}
@@ -71,20 +70,23 @@ field_stored u b x ys at w n same h e =
     let y : ys ≡ field_bytes u w n = e ∙ ap (λ (x : List ℕ). field_bytes u (length (take w (drop at x))) n) same ∙ ap (λ (k : ℕ). field_bytes u k n) l in
     rw (same, y) (part_stored b (field_bytes u w n) at w (length_field u w n) h)
 
--- What the writer gives, by its tests
+-- the fields written as parts, one after the other
+pub line_stored : (b : List ℕ) (u : Uses) (f : Fields) (date first second third : List ℕ) → 43 ≤ length b
+    → date ≡ field_bytes u.date (length (take 8 (drop 1 (set b 0 f.letter)))) f.date
+    → first ≡ field_bytes u.first (length (take 9 (drop 9 (put_mid 1 8 (set b 0 f.letter) date)))) f.first
+    → second ≡ field_bytes u.second (length (take 9 (drop 18 (put_mid 9 9 (put_mid 1 8 (set b 0 f.letter) date) first)))) f.second
+    → third ≡ field_bytes u.third (length (take 15 (drop 27 (put_mid 18 9 (put_mid 9 9 (put_mid 1 8 (set b 0 f.letter) date) first) second)))) f.third
+    → sets b 0 (bytes_under u f)
+    ≡ set (put_mid 27 15 (put_mid 18 9 (put_mid 9 9 (put_mid 1 8 (set b 0 f.letter) date) first) second) third) 42 10
+line_stored b u f date first second third long d e g h =
+    let i = field_stored u.date _ _ _ 1 8 f.date refl (simp length-set (omega arith)) d in
+    let j = field_stored u.first _ _ _ 9 9 f.first i (simp (length-sets, length-set) (omega arith)) e in
+    let k = field_stored u.second _ _ _ 18 9 f.second j (simp (length-sets, length-set) (omega arith)) g in
+    let l = field_stored u.third _ _ _ 27 15 f.third k (simp (length-sets, length-set) (omega arith)) h in
+    sym (ap (λ (b : List ℕ). set b 42 10) l ∙ line_sets b u f)
 
-pub unwritten : (f : Fields) (b : List ℕ) → (43 ≤ length b → writable f ≡ true → ⊥) → written_of f b ≡ (malformed_number, b)
-unfolding written_of
-unwritten f b h = go (leb 43 (length b)) (writable f) refl refl
-  where
-    go : (p q : Bool) → leb 43 (length b) ≡ p → writable f ≡ q → ◌≡◌ {A = ℕ × List ℕ} (cond (p && q) (0, line_bytes f ++ drop 43 b) (malformed_number, b)) (malformed_number, b)
-    go true true d e = absurd (h (leb-true 43 (length b) d) e)
-    go true false d e = refl
-    go false q d e = refl
-
-pub written : (f : Fields) (b : List ℕ) (u : Uses) → uses_of f.letter ≡ Some u → fits_all (Some u) f ≡ true → 43 ≤ length b
-    → written_of f b ≡ (0, sets b 0 (bytes_under u f))
+-- what the writer gives, by the letter's uses
+pub written_by : (f : Fields) (b : List ℕ)
+    → written_of f b ≡ cond (leb 43 (length b) && fits_all (uses_of f.letter) f) (0, sets b 0 (bytes_under (used_in (uses_of f.letter)) f)) (malformed_number, b)
 unfolding written_of writable line_bytes
-written f b u e h enough =
-    let front : bytes_under u f ++ drop 43 b ≡ sets b 0 (bytes_under u f) = rw e at (sym (stored_in_front f b enough)) in
-    simp (le-leb 43 (length b) enough, e, h, front)
+written_by f b = grind (arith, nat_tests, stored_in_front)

@@ -2,7 +2,7 @@
 ghost use Rattle.std.specs.Prelude.{◌≡◌, ◌≤◌, ◌^◌, ◌<◌, length, get_or, not, eqb, position, IfOk};
 ghost use Rattle.line.specs.Field.{space, field_at, symbol_of, justified};
 ghost use Rattle.line.specs.Write.{field_bytes};
-ghost use Rattle.line.specs.FieldUse.{used_number};
+ghost use Rattle.line.specs.FieldUse.{used_number, filled_field};
 
 use crate::Malformed;
 
@@ -13,40 +13,40 @@ pub fn first_filled(columns: &[u8]) -> Option<usize>
     columns.iter().position(|&column| column != b' ')
 }
 
-// The field of columns that don't begin with a space: digits up to its end, without a leading 0.
-pub fn read_digits(digits: &[u8]) -> Result<Option<u64>, Malformed>
+// The field of columns that don't begin with a space: digits up to its end, without a leading 0. std's parse takes a plus sign and leading zeros,
+// which are refused here. The bound of 18 columns is asked by each function that reads, as each is given a slice of its own.
+#[tactic(auto, using(crate::proofs::FieldReading::digit_steps), unfolding(crate::specs::Field::field_at))]
+pub fn read_digits(digits: &[u8]) -> Result<u64, Malformed>
     requires { (0 < length digits.now) × (length digits.now ≤ 18) × (get_or digits.now 0 0 ≡ space → ⊥) }
-    ensures { result ≡ field_at digits.now 0 (length digits.now) }
+    ensures { filled_field result ≡ field_at digits.now 0 (length digits.now) }
 {
-    if digits[0] == b'0' {
-        return if digits.len() == 1 {
-            Ok(Some(0))
-        } else {
-            Err(Malformed)
-        };
+    match digits {
+        [b'0'] => return Ok(0),
+        [b'0', ..] => return Err(Malformed),
+        _ => {}
     }
+    // A loop, as its invariant bounds n: 18 digits fit 64 bits, and a fold's closure doesn't see how many it has passed.
     let mut n = 0;
     for &digit in digits {
         if !digit.is_ascii_digit() {
             return Err(Malformed);
         }
-        n = n * 10 + (digit - b'0') as u64;
+        n = n * 10 + u64::from(digit - b'0');
     }
-    Ok(Some(n))
+    Ok(n)
 }
 
 // The field of its columns: None where all are spaces, else its number.
+#[tactic(auto, using(crate::proofs::FieldReading::filled_first, crate::proofs::FieldReading::filled_nowhere))]
 pub fn read_field(columns: &[u8]) -> Result<Option<u64>, Malformed>
     requires { length columns.now ≤ 18 }
     ensures { result ≡ field_at columns.now 0 (length columns.now) }
 {
-    match first_filled(columns) {
-        Some(first) => read_digits(&columns[first..]),
-        None => Ok(None),
-    }
+    first_filled(columns).map_or(Ok(None), |first| read_digits(&columns[first..]).map(Some))
 }
 
 // The number of a used field, or 0 of an unused one, which is all spaces.
+#[tactic(auto, using(crate::proofs::FieldBounds::number_below, crate::proofs::FieldBounds::some_below))]
 pub fn read_number(columns: &[u8], used: bool) -> Result<u64, Malformed>
     requires { length columns.now ≤ 18 }
     ensures value { result ≡ used_number used (field_at columns.now 0 (length columns.now)) }
@@ -63,13 +63,11 @@ pub fn read_number(columns: &[u8], used: bool) -> Result<u64, Malformed>
 pub fn symbol(m: u64) -> u8
     ensures { result ≡ symbol_of m }
 {
-    if m == 0 {
-        return b' ';
-    }
-    b'0' + (m % 10) as u8
+    if m == 0 { b' ' } else { b'0' + (m % 10) as u8 }
 }
 
-// Writes n into its columns, right-justified.
+// Writes n into its columns, right-justified. Of a number that is too wide its last digits stand; std's `{:>width$}` would write it whole.
+#[tactic(auto, using(crate::proofs::NumberStores::padded_back, crate::proofs::NumberStores::last_back), unfolding(crate::specs::Field::padded, crate::specs::Field::justified))]
 pub fn write_number(columns: &mut [u8], n: u64)
     ensures { columns.new ≡ justified (length columns.old) n }
 {
@@ -78,6 +76,7 @@ pub fn write_number(columns: &mut [u8], n: u64)
         return;
     }
     columns[width - 1] = b'0' + (n % 10) as u8;
+    // By index: after a loop over `iter_mut().rev()`, or over what `split_last_mut` leaves, no more than the slice's length is known.
     let mut m = n / 10;
     for i in (0..width - 1).rev() {
         columns[i] = symbol(m);
@@ -86,6 +85,7 @@ pub fn write_number(columns: &mut [u8], n: u64)
 }
 
 // Writes a used field's number into its columns, or spaces for an unused one.
+#[tactic(auto, using(crate::proofs::NumberStores::spaces), unfolding(crate::specs::Write::field_bytes))]
 pub fn write_field(columns: &mut [u8], used: bool, n: u64)
     ensures { columns.new ≡ field_bytes used (length columns.old) n }
 {

@@ -5,13 +5,13 @@ mod field;
 mod line;
 mod write;
 
-ghost use Rattle.std.specs.Prelude.{◌≡◌};
 ghost use Rattle.line.specs.Line.{refusal_number};
 ghost use Rattle.line.specs.RoundTrip.{RoundTrip};
 ghost use Rattle.line.specs.Examples.{Examples};
 
+pub use crate::field::write_number;
 pub use crate::line::read_line;
-pub use crate::write::{put_number, write_line};
+pub use crate::write::write_line;
 use answers::Numbered;
 
 // A line's fields: the letter's byte, the date and the three numbers. One that the letter doesn't use is 0. The letter is a byte and no enum, as C
@@ -44,6 +44,7 @@ impl Numbered for Malformed {
 pub const LINE_BYTES: usize = 43;
 
 // That reading and writing undo each other, and the lines of document 01's example file. It does nothing.
+#[tactic(auto, using(crate::proofs::LineRoundTrip::round_trip, crate::proofs::Examples::examples))]
 pub fn theorems()
     ensures { RoundTrip × Examples }
 {}

@@ -4,6 +4,16 @@ ghost use Rattle.line.specs.Line.{uses_of, read_stated, line_of};
 
 use crate::field::read_number;
 use crate::{Fields, LINE_BYTES, Malformed};
+use std::ops::Range;
+
+// The columns of a line's numbers.
+pub const DATE: Range<usize> = 1..9;
+
+pub const FIRST: Range<usize> = 9..18;
+
+pub const SECOND: Range<usize> = 18..27;
+
+pub const THIRD: Range<usize> = 27..42;
 
 // The fields that a known letter uses.
 #[derive(Clone, Copy)]
@@ -18,25 +28,27 @@ pub struct Uses {
 pub fn uses_for(letter: u8) -> Option<Uses>
     ensures { result ≡ uses_of letter }
 {
-    let (date, first, second, third) = match letter {
-        b'O' => (true, true, true, true),
-        b'F' => (false, true, false, true),
-        b'D' => (true, false, false, false),
-        b'R' => (true, false, false, true),
-        b'T' => (false, true, true, true),
-        b'S' | b'E' => (false, false, false, true),
-        _ => return None,
+    let uses = |date, first, second, third| {
+        Some(Uses {
+            date,
+            first,
+            second,
+            third,
+        })
     };
-    Some(Uses {
-        date,
-        first,
-        second,
-        third,
-    })
+    match letter {
+        b'O' => uses(true, true, true, true),
+        b'F' => uses(false, true, false, true),
+        b'D' => uses(true, false, false, false),
+        b'R' => uses(true, false, false, true),
+        b'T' => uses(false, true, true, true),
+        b'S' | b'E' => uses(false, false, false, true),
+        _ => None,
+    }
 }
 
 // Any bytes: the fields of a well-formed line, or that it is malformed. Numbers of up to nine columns fit 32 bits.
-#[tactic(auto, unfolding(crate::specs::Line::line_of))]
+#[tactic(auto, using(crate::proofs::LineReading::line_read), unfolding(crate::specs::Line::line_of))]
 pub fn read_line(line: &[u8]) -> Result<Fields, Malformed>
     ensures { read_stated result ≡ line_of line.now }
 {
@@ -44,13 +56,11 @@ pub fn read_line(line: &[u8]) -> Result<Fields, Malformed>
         return Err(Malformed);
     }
     let letter = line[0];
-    let Some(uses) = uses_for(letter) else {
-        return Err(Malformed);
-    };
-    let date = read_number(&line[1..9], uses.date)? as u32;
-    let first = read_number(&line[9..18], uses.first)? as u32;
-    let second = read_number(&line[18..27], uses.second)? as u32;
-    let third = read_number(&line[27..42], uses.third)?;
+    let uses = uses_for(letter).ok_or(Malformed)?;
+    let date = read_number(&line[DATE], uses.date)? as u32;
+    let first = read_number(&line[FIRST], uses.first)? as u32;
+    let second = read_number(&line[SECOND], uses.second)? as u32;
+    let third = read_number(&line[THIRD], uses.third)?;
     Ok(Fields {
         letter,
         date,

@@ -1,29 +1,19 @@
 -- The lines together are the file, each runs through the next line feed, and the parts by number are the lines.
-use mathlib.Core.Path.{◌≡◌, refl, sym, ap, ◌∙◌}
-use mathlib.Core.Bool.{Bool, true, false, cond}
+use mathlib.Core.Path.{◌≡◌, refl, ap, ◌∙◌}
 use mathlib.Core.List.{List, [], ◌∷◌}
 use Prim.Native.Nat.{ℕ, zero, suc, ◌-◌, ◌≤◌, ◌<◌}
-use native.Mathlib.Decide.{dec_lt}
-use native.Mathlib.Nat.{add-zero}
-use native.Mathlib.Numerals.{unary_clauses}
 use native.Mathlib.Omega.{arith}
-use lib.Dec.{eqb}
 use lib.ListN.{length, get_or, drop, length-drop}
 use lib.Seq.{get_or-drop}
-use borrow.Author.Tests.{eqb-true, eqb-false}
-use Rattle.lines.specs.Lines.{joined, lines, line_at, end_of, start_of, line_start, line_end, part_of}
+use Rattle.std.proofs.lemmas.Bool.Decides.{nat_tests}
+use Rattle.lines.specs.Lines.{lines, line_at, end_of, start_of, line_start, line_end, part_of}
 use Rattle.lines.specs.LineParts.{concatenated, LineParts}
 use Rattle.lines.proofs.LinePositions.{end-within, end-past, end_beyond, part_is_line, line_beyond, lines_at, lines_end, lines_from, line-some, start-within}
 
 lines-together : (s : List ℕ) → concatenated (lines s) ≡ s
 unfolding lines
 lines-together [] = refl
-lines-together (x ∷ s) = by_byte (eqb x 10) (lines s) ∙ ap (λ (r : List ℕ). x ∷ r) (lines-together s)
-  where
-    by_byte : (t : Bool) (ls : List (List ℕ)) → concatenated (cond t ((x ∷ []) ∷ ls) (joined x ls)) ≡ x ∷ concatenated ls
-    by_byte true ls = refl
-    by_byte false [] = refl
-    by_byte false (l ∷ ls) = refl
+lines-together (x ∷ s) = grind (arith, nat_tests, lines-together s)
 
 -- a line that isn't the last has a line feed as its last byte
 abbrev EndsInFeed : List (List ℕ) → Type 0
@@ -32,16 +22,8 @@ EndsInFeed ls = (n : ℕ) → suc n < length ls → get_or (get_or ls n []) (len
 ends_in_feed : (s : List ℕ) → EndsInFeed (lines s)
 unfolding lines
 ends_in_feed [] n h = absurd (omega arith)
-ends_in_feed (x ∷ s) n h = by_byte (eqb x 10) refl (lines s) (line-some s) (ends_in_feed s) n h
-  where
-    by_byte : (t : Bool) → eqb x 10 ≡ t → (ls : List (List ℕ)) → ((i : ℕ) → i < length ls → 0 < length (get_or ls i []))
-        → EndsInFeed ls → EndsInFeed (cond t ((x ∷ []) ∷ ls) (joined x ls))
-    by_byte true e ls some ih zero h = eqb-true x 10 e
-    by_byte true e ls some ih (suc i) h = ih i (omega arith)
-    by_byte false e [] some ih i h = absurd (omega arith)
-    by_byte false e ([] ∷ ls) some ih zero h = absurd (omega (arith, some 0 (omega arith)))
-    by_byte false e ((y ∷ l) ∷ ls) some ih zero h = simp unary_clauses (simp unary_clauses at (ih 0 h))
-    by_byte false e (l ∷ ls) some ih (suc i) h = ih (suc i) h
+ends_in_feed (x ∷ s) zero h = grind (arith, nat_tests, line-some s 0, ends_in_feed s 0)
+ends_in_feed (x ∷ s) (suc n) h = grind (arith, nat_tests, ends_in_feed s n, ends_in_feed s (suc n))
 
 -- no byte before a line's last is a line feed
 abbrev NoFeedBefore : List (List ℕ) → Type 0
@@ -50,30 +32,13 @@ NoFeedBefore ls = (n k : ℕ) → suc k < length (get_or ls n []) → get_or (ge
 next-feed : (s : List ℕ) → NoFeedBefore (lines s)
 unfolding lines
 next-feed [] n k h = absurd (omega arith)
-next-feed (x ∷ s) n k h = by_byte (eqb x 10) refl (lines s) (next-feed s) n k h
-  where
-    by_byte : (t : Bool) → eqb x 10 ≡ t → (ls : List (List ℕ)) → NoFeedBefore ls → NoFeedBefore (cond t ((x ∷ []) ∷ ls) (joined x ls))
-    by_byte true e ls ih zero k h = absurd (omega arith)
-    by_byte true e ls ih (suc i) k h = ih i k h
-    by_byte false e [] ih zero k h = absurd (omega arith)
-    by_byte false e [] ih (suc i) k h = absurd (omega arith)
-    by_byte false e (l ∷ ls) ih zero zero h = eqb-false x 10 e
-    by_byte false e (l ∷ ls) ih zero (suc k) h = ih 0 k (omega arith)
-    by_byte false e (l ∷ ls) ih (suc i) k h = ih (suc i) k h
+next-feed (x ∷ s) zero zero h = grind (arith, nat_tests)
+next-feed (x ∷ s) zero (suc k) h = grind (arith, nat_tests, next-feed s 0 k)
+next-feed (x ∷ s) (suc n) k h = grind (arith, nat_tests, next-feed s n k, next-feed s (suc n) k)
 
 -- the line that begins behind n lines is the first of those that are left
 line-numbered : (s : List ℕ) (n : ℕ) → line_at s (start_of s n) ≡ get_or (lines s) n []
-line-numbered s n =
-    by-rest (dec_lt (start_of s n) (length s))
-    ∙ ap (λ (ls : List (List ℕ)). get_or ls 0 []) (lines_from s n)
-    ∙ get_or-drop n (lines s) 0 []
-    ∙ ap (λ (k : ℕ). get_or (lines s) k []) (add-zero n)
-  where
-    by-rest : Dec (start_of s n < length s) → line_at s (start_of s n) ≡ get_or (lines (drop (start_of s n) s)) 0 []
-    by-rest (yes h) = sym (ap (λ (ls : List (List ℕ)). get_or ls 0 []) (lines_at s (start_of s n) h))
-    by-rest (no h) =
-        line_beyond s (start_of s n) (omega arith)
-        ∙ sym (ap (λ (ls : List (List ℕ)). get_or ls 0 []) (lines_end s (start_of s n) (omega arith)))
+line-numbered s n = grind (arith, lines_from s n, lines_at s (start_of s n), lines_end s (start_of s n), line_beyond s (start_of s n), get_or-drop n (lines s) 0 [])
 
 line_is_part : (s : List ℕ) (n : ℕ) → part_of s (line_start s (suc n)) (line_end s (suc n)) ≡ get_or (lines s) n []
 unfolding line_start line_end
@@ -89,11 +54,8 @@ end_is_end s at e = (e, end_beyond s at (omega arith) ∙ e)
 
 beyond_is_end : (s : List ℕ) (n : ℕ) → length (lines s) ≤ n → (line_start s (suc n) ≡ length s) × (line_end s (suc n) ≡ length s)
 unfolding line_start line_end
-beyond_is_end s n h = end_is_end s (start_of s n) (by-rest (dec_lt (start_of s n) (length s)))
-  where
-    by-rest : Dec (start_of s n < length s) → start_of s n ≡ length s
-    by-rest (yes b) = absurd (omega (arith, lines_left s n, ap length (lines_at s (start_of s n) b)))
-    by-rest (no b) = omega (arith, start-within s n)
+beyond_is_end s n h =
+    end_is_end s (start_of s n) (grind (arith, lines_left s n, lines_at s (start_of s n), start-within s n))
 
 none_is_end : (s : List ℕ) → (line_start s 0 ≡ length s) × (line_end s 0 ≡ length s)
 unfolding line_start line_end
@@ -101,16 +63,16 @@ none_is_end s = end_is_end s (length s) refl
 
 line-begins : (s : List ℕ) (n : ℕ) → n < length (lines s) → line_start s (suc n) < line_end s (suc n)
 unfolding line_start line_end
-line-begins s n h = by-rest (dec_lt (start_of s n) (length s))
-  where
-    by-rest : Dec (start_of s n < length s) → start_of s n < end_of s (start_of s n)
-    by-rest (yes b) = end-past s (start_of s n) b
-    by-rest (no b) = absurd (omega (arith, lines_left s n, ap length (lines_end s (start_of s n) (omega arith))))
+line-begins s n h = grind (arith, lines_left s n, end-past s (start_of s n), lines_end s (start_of s n))
 
 part-within : (s : List ℕ) (n : ℕ) → line_end s n ≤ length s
 unfolding line_start line_end
 part-within s zero = end-within s (length s) (omega arith)
 part-within s (suc k) = end-within s (start_of s k) (start-within s k)
+
+pub part_bounds : (s : List ℕ) (n : ℕ) → (line_start s n ≤ line_end s n) × (line_end s n ≤ length s)
+unfolding line_end
+part_bounds s n = (omega arith, part-within s n)
 
 pub parts : LineParts
 parts =

@@ -1,9 +1,8 @@
 -- Positions and lines: where the line at a position ends, and what the lines from there on are.
-use mathlib.Core.Path.{◌≡◌, refl, sym, ap, ◌∙◌}
-use mathlib.Core.Bool.{Bool, true, false, cond}
+use mathlib.Core.Path.{◌≡◌, refl, ap, ◌∙◌}
+use mathlib.Core.Bool.{true, false}
 use mathlib.Core.List.{List, [], ◌∷◌, ◌++◌}
 use Prim.Native.Nat.{ℕ, zero, suc, ◌+◌, ◌-◌, ◌≤◌, ◌<◌}
-use native.Mathlib.Decide.{dec_lt}
 use native.Mathlib.Nat.{add-zero, add-suc}
 use native.Mathlib.Numerals.{add-one, unary_clauses}
 use native.Mathlib.Omega.{arith}
@@ -11,32 +10,25 @@ use lib.Dec.{eqb}
 use lib.ListN.{length, get_or, take, drop, length-drop, drop_of_length-le}
 use lib.Seq.{drop-drop, get_or-take, get_or-drop}
 use borrow.Author.Tests.{eq-eqb}
+use Rattle.std.proofs.lemmas.Bool.Decides.{nat_tests}
 use Rattle.std.specs.Prelude.{Some, None, position}
 use Rattle.std.specs.List.{position_or_len}
 use Rattle.std.proofs.lemmas.Grind.{common_steps}
 use Rattle.std.proofs.lemmas.List.Quantifiers.{position-Some}
 use Rattle.std.proofs.lemmas.List.Sums.{fails_before_first}
-use Rattle.lines.specs.Lines.{joined, lines, line_length, line_at, end_of, start_of, line_start, part_of}
+use Rattle.lines.specs.Lines.{lines, line_length, line_at, end_of, start_of, line_start, part_of}
 
 -- The first line's length
 
 pub line_length_within : (s : List ℕ) → line_length s ≤ length s
 unfolding line_length
 line_length_within [] = omega arith
-line_length_within (x ∷ s) = by_byte (eqb x 10) (line_length_within s)
-  where
-    by_byte : (t : Bool) → line_length s ≤ length s → cond t 1 (suc (line_length s)) ≤ suc (length s)
-    by_byte true h = omega arith
-    by_byte false h = omega arith
+line_length_within (x ∷ s) = grind (arith, nat_tests, line_length_within s)
 
 pub line_length_some : (s : List ℕ) → 0 < length s → 0 < line_length s
 unfolding line_length
 line_length_some [] h = absurd (omega arith)
-line_length_some (x ∷ s) h = by_byte (eqb x 10)
-  where
-    by_byte : (t : Bool) → 0 < cond t 1 (suc (line_length s))
-    by_byte true = omega arith
-    by_byte false = omega arith
+line_length_some (x ∷ s) h = grind (arith, nat_tests)
 
 -- up to the first line feed, or the whole where there is none
 pub length_to_feed : (s : List ℕ) (k : ℕ) → position (λ x. eqb x 10) s ≡ Some k → line_length s ≡ k + 1
@@ -49,8 +41,7 @@ length_to_feed s k e =
     go [] k h e n = absurd (omega arith)
     go (x ∷ s) zero h e n = rw e refl
     go (x ∷ s) (suc k) h e n =
-        let ih = go s k (omega arith) e (λ i l. n (suc i) (omega arith)) in
-        rw (n 0 (omega arith)) (omega (arith, ih))
+        rw (n 0 (omega arith)) (omega (arith, go s k (omega arith) e (λ i l. n (suc i) (omega arith))))
 
 pub length_whole : (s : List ℕ) → position (λ x. eqb x 10) s ≡ None → line_length s ≡ length s
 unfolding line_length
@@ -64,8 +55,12 @@ length_whole s e =
 
 -- The end of the line at a position
 
+-- no further than the file's end, or nowhere
+pub end_fits : (s : List ℕ) (at : ℕ) → end_of s at ≤ at + (length s - at)
+end_fits s at = omega (arith, line_length_within (drop at s), length-drop at s)
+
 pub end-within : (s : List ℕ) (at : ℕ) → at ≤ length s → end_of s at ≤ length s
-end-within s at h = omega (arith, line_length_within (drop at s), length-drop at s)
+end-within s at h = omega (arith, end_fits s at)
 
 pub end-past : (s : List ℕ) (at : ℕ) → at < length s → at < end_of s at
 end-past s at h = omega (arith, line_length_some (drop at s) (rw length-drop (omega arith)))
@@ -74,14 +69,6 @@ end-past s at h = omega (arith, line_length_some (drop at s) (rw length-drop (om
 pub end_beyond : (s : List ℕ) (at : ℕ) → length s ≤ at → end_of s at ≡ at
 unfolding line_length
 end_beyond s at h = rw (drop_of_length-le s h) (omega arith)
-
--- and stays below what the position and the file's length stay below
-pub end-below : (s : List ℕ) (at k : ℕ) → at < k → length s < k → end_of s at < k
-end-below s at k h l = go (dec_lt (length s) at)
-  where
-    go : Dec (length s < at) → end_of s at < k
-    go (yes b) = omega (arith, end_beyond s at (omega arith))
-    go (no b) = omega (arith, end-within s at (omega arith))
 
 -- The line at a position
 
@@ -105,22 +92,8 @@ first_byte s at h =
 lines-first : (s : List ℕ) → 0 < length s → lines s ≡ take (line_length s) s ∷ lines (drop (line_length s) s)
 unfolding lines line_length
 lines-first [] h = absurd (omega arith)
-lines-first (x ∷ []) h = by_byte (eqb x 10)
-  where
-    by_byte : (t : Bool) → cond t ((x ∷ []) ∷ []) ((x ∷ []) ∷ []) ≡ take (cond t 1 1) (x ∷ []) ∷ lines (drop (cond t 1 1) (x ∷ []))
-    by_byte true = refl
-    by_byte false = refl
-lines-first (x ∷ y ∷ s) h = by_byte (eqb x 10) (lines-first (y ∷ s) (omega arith))
-  where
-    rest : List ℕ
-    rest = y ∷ s
-
-    by_byte : (t : Bool)
-        → lines rest ≡ take (line_length rest) rest ∷ lines (drop (line_length rest) rest)
-        → cond t ((x ∷ []) ∷ lines rest) (joined x (lines rest))
-        ≡ take (cond t 1 (suc (line_length rest))) (x ∷ rest) ∷ lines (drop (cond t 1 (suc (line_length rest))) (x ∷ rest))
-    by_byte true e = refl
-    by_byte false e = ap (joined x) e
+lines-first (x ∷ []) h = grind (arith, nat_tests)
+lines-first (x ∷ y ∷ s) h = grind (arith, nat_tests, lines-first (y ∷ s) (omega arith))
 
 pub lines_at : (s : List ℕ) (at : ℕ) → at < length s → lines (drop at s) ≡ line_at s at ∷ lines (drop (end_of s at) s)
 lines_at s at h =
@@ -138,21 +111,8 @@ lines-some s h = rw (lines-first s h) (omega arith)
 pub line-some : (s : List ℕ) (k : ℕ) → k < length (lines s) → 0 < length (get_or (lines s) k [])
 unfolding lines
 line-some [] k h = absurd (omega arith)
-line-some (x ∷ s) k h = by_byte (eqb x 10) (line-some s) k h
-  where
-    in_joined : (ls : List (List ℕ)) → ((i : ℕ) → i < length ls → 0 < length (get_or ls i []))
-        → (i : ℕ) → i < length (joined x ls) → 0 < length (get_or (joined x ls) i [])
-    in_joined [] ih zero h = omega arith
-    in_joined [] ih (suc i) h = absurd (omega arith)
-    in_joined (l ∷ ls) ih zero h = omega arith
-    in_joined (l ∷ ls) ih (suc i) h = ih (suc i) h
-
-    by_byte : (t : Bool) → ((i : ℕ) → i < length (lines s) → 0 < length (get_or (lines s) i []))
-        → (i : ℕ) → i < length (cond t ((x ∷ []) ∷ lines s) (joined x (lines s)))
-        → 0 < length (get_or (cond t ((x ∷ []) ∷ lines s) (joined x (lines s))) i [])
-    by_byte true ih zero h = omega arith
-    by_byte true ih (suc i) h = ih i (omega arith)
-    by_byte false ih i h = in_joined (lines s) ih i h
+line-some (x ∷ s) zero h = grind (arith, nat_tests, line-some s 0)
+line-some (x ∷ s) (suc k) h = grind (arith, nat_tests, line-some s k, line-some s (suc k))
 
 -- what is empty or ends in a line feed has its lines before those of what follows
 pub lines-append : (s t : List ℕ) → (0 < length s → get_or s (length s - 1) 0 ≡ 10) → lines (s ++ t) ≡ lines s ++ lines t
@@ -161,25 +121,14 @@ lines-append [] t e = refl
 lines-append (x ∷ []) t e = rw (eq-eqb x 10 (e (omega arith)))
 lines-append (x ∷ y ∷ s) t e =
     let ends : get_or (y ∷ s) (length s) 0 ≡ 10 = simp unary_clauses at (e (omega arith)) in
-    by_byte (eqb x 10) (lines-append (y ∷ s) t (λ _. simp unary_clauses ends))
-  where
-    in_front : (ls ms : List (List ℕ)) → 0 < length ls → joined x (ls ++ ms) ≡ joined x ls ++ ms
-    in_front [] ms h = absurd (omega arith)
-    in_front (l ∷ ls) ms h = refl
-
-    by_byte : (b : Bool)
-        → lines (y ∷ s ++ t) ≡ lines (y ∷ s) ++ lines t
-        → cond b ((x ∷ []) ∷ lines (y ∷ s ++ t)) (joined x (lines (y ∷ s ++ t)))
-        ≡ cond b ((x ∷ []) ∷ lines (y ∷ s)) (joined x (lines (y ∷ s))) ++ lines t
-    by_byte true h = ap (λ (ls : List (List ℕ)). (x ∷ []) ∷ ls) h
-    by_byte false h = ap (joined x) h ∙ in_front (lines (y ∷ s)) (lines t) (lines-some (y ∷ s) (omega arith))
+    grind (arith, nat_tests, lines-append (y ∷ s) t (λ _. simp unary_clauses ends), lines-some (y ∷ s))
 
 -- Where the line of a number begins
 
-pub start-numbered : (s : List ℕ) (n : ℕ) → 0 < n → line_start s n ≡ start_of s (n - 1)
-unfolding line_start
-start-numbered s zero h = absurd (omega arith)
-start-numbered s (suc k) h = simp unary_clauses
+pub start_next : (s : List ℕ) (n : ℕ) → 0 < n → line_start s (n + 1) ≡ end_of s (line_start s n)
+unfolding line_start start_of
+start_next s zero h = absurd (omega arith)
+start_next s (suc k) h = rw add-one refl
 
 pub start-within : (s : List ℕ) (k : ℕ) → start_of s k ≤ length s
 unfolding start_of
@@ -194,8 +143,11 @@ start_further s k (suc n) e =
     let h = start_further s k n e in
     rw add-suc (end_beyond s (start_of s (k + n)) (omega arith) ∙ h)
 
-pub start-stays : (s : List ℕ) (k n : ℕ) → k ≤ n → start_of s k ≡ length s → start_of s n ≡ length s
-start-stays s k n h e =
+pub start_stays : (s : List ℕ) (k n : ℕ) → 0 < k → k ≤ n → line_start s k ≡ length s → line_start s n ≡ length s
+unfolding line_start
+start_stays s zero n pos h e = absurd (omega arith)
+start_stays s (suc k) zero pos h e = absurd (omega arith)
+start_stays s (suc k) (suc n) pos h e =
     let m : k + (n - k) ≡ n = omega arith in
     rw m at (start_further s k (n - k) e)
 
@@ -203,15 +155,4 @@ start-stays s k n h e =
 pub lines_from : (s : List ℕ) (k : ℕ) → lines (drop (start_of s k) s) ≡ drop k (lines s)
 unfolding start_of
 lines_from s zero = refl
-lines_from s (suc k) =
-    by-rest (dec_lt (start_of s k) (length s))
-    ∙ ap (drop 1) (lines_from s k)
-    ∙ drop-drop 1 k (lines s)
-    ∙ ap (λ (n : ℕ). drop n (lines s)) (add-one k)
-  where
-    a : ℕ
-    a = start_of s k
-
-    by-rest : Dec (a < length s) → lines (drop (end_of s a) s) ≡ drop 1 (lines (drop a s))
-    by-rest (yes h) = sym (ap (drop 1) (lines_at s a h))
-    by-rest (no h) = lines_end s (end_of s a) (omega arith) ∙ sym (ap (drop 1) (lines_end s a (omega arith)))
+lines_from s (suc k) = grind (arith, lines_from s k, lines_at s (start_of s k), lines_end s (start_of s k), lines_end s (end_of s (start_of s k)), drop-drop 1 k (lines s))

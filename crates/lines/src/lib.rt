@@ -10,6 +10,7 @@ pub use crate::position::{line_bounds, line_part};
 pub use crate::reading::Reader;
 
 // That the parts by number are the lines. It does nothing.
+#[tactic(auto, using(crate::proofs::LineParts::parts))]
 pub fn theorems()
     ensures { LineParts }
 {}

@@ -6,7 +6,7 @@ mod settling;
 use crate::settling::taken_often;
 use book::Cents;
 use cases::Cases;
-use report::{BYTES, report};
+use report::write_report;
 use std::io;
 
 // The most bytes of the input.
@@ -14,14 +14,6 @@ const INPUT: usize = 65536;
 
 // The most digits of a number of cents.
 const DIGITS: usize = 12;
-
-// The statement, as the program `statement` prints it: a program is no library, and one for these lines would be longer than they are.
-fn put_statement(rt: &impl Print, file: &[u8]) {
-    let mut out = [0u8; BYTES];
-    if let Ok(count) = report(file, &mut out) {
-        let _ = rt.write_all(&out[..count]);
-    }
-}
 
 // What the settlements took, by the number of cents that the input has in its first line; nothing where something else stands there.
 fn put_settlements(rt: &impl Print, input: &mut Cases) {
@@ -38,7 +30,7 @@ fn main(rt: HostRuntime) -> io::Result<()> {
     if matches!(input.text.first(), Some(b'0'..=b'9')) {
         put_settlements(&rt, &mut input);
     } else {
-        put_statement(&rt, input.text);
+        let _ = write_report(input.text, &mut rt.stdout());
     }
     Ok(())
 }

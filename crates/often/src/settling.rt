@@ -1,5 +1,5 @@
 // A book that is settled often. Each call on it has a caller here, beside the one in a load.
-use book::{Book, Cents, Day, Parts, ReachedBook};
+use book::{Book, Cents, Day, Opening, Parts, ReachedBook};
 use std::array;
 
 // The settlements, each of the same book.
@@ -9,8 +9,15 @@ const TIMES: u64 = 10000;
 fn open_right(book: ReachedBook) -> ReachedBook {
     let holders: [u32; Book::POSITIONS] = array::from_fn(|i| i as u32 + 1);
     let shares = [15625u32; Book::POSITIONS];
-    let cents = Cents(354054743000);
-    book::open_book(book, 20140101, Day(6000), 2000, cents, &holders, &shares).book
+    let opening = Opening {
+        first: 20140101,
+        term: Day(6000),
+        annual: 2000,
+        cents: Cents(354054743000),
+        holders: &holders,
+        shares: &shares,
+    };
+    book::open_book(book, opening).book
 }
 
 // A right held for one day. The rate is the one that holds, and no parts are to be transferred: both calls leave the book as it is.

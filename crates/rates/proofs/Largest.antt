@@ -1,9 +1,9 @@
 -- What `largest` is: it passes the test, and nothing larger does.
-use mathlib.Core.Path.{◌≡◌, ◌∙◌, ap}
+use mathlib.Core.Path.{◌≡◌}
 use mathlib.Core.Bool.{Bool, true, false}
 use Prim.Native.Nat.{ℕ, zero, suc, ◌≤◌}
 use native.Mathlib.Omega.{arith}
-use Rattle.general_laws.proofs.Choice.{by_order, choice, true_not_false}
+use Rattle.general_laws.proofs.Choice.{by_order, choice}
 use Rattle.rates.specs.Rate.{largest}
 
 pub largest_holds : (p : ℕ → Bool) (n : ℕ) → p 0 ≡ true → p (largest p n) ≡ true
@@ -17,4 +17,4 @@ largest-most p zero d t h = h
 largest-most p (suc n) d t h = choice (λ m. d ≤ m) (p (suc n)) (λ _. h) (λ f. largest-most p n d t (not_last f))
   where
     not_last : p (suc n) ≡ false → d ≤ n
-    not_last f = by_order n d (λ lt. let e : d ≡ suc n = omega arith in true_not_false (p d) t (ap p e ∙ f)) (λ le. le)
+    not_last f = by_order n d (λ lt. let e : d ≡ suc n = omega arith in cc) (λ le. le)

@@ -6,7 +6,8 @@ use native.Mathlib.Nat.{le_trans, le-add_right, mul-le-mul_left, mul-le-mul_righ
 use native.Mathlib.Omega.{arith}
 use lib.Dec.{lit<}
 use borrow.Author.Tests.{leb-true, le-leb}
-use Rattle.general_laws.proofs.Powers.{below_power, product_power}
+use Rattle.std.proofs.lemmas.Nat.{mul-pow}
+use Rattle.general_laws.proofs.Powers.{below_power}
 use Rattle.rates.specs.Rate.{growth, limit, within, daily_of}
 use Rattle.rates.specs.Exact.{exact_year, not_over, rounded_down}
 use Rattle.rates.proofs.Largest.{largest_holds, largest-most}
@@ -29,7 +30,7 @@ down : (i : ℕ) → rounded_down i ≤ daily_of i
 down i =
     let d = rounded_down i in
     let less : growth d ≤ (2 * (10 ^ 10 + d)) ^ 365 = pow-le-pow_left (omega arith) _ in
-    let met : (2 * (10 ^ 10 + d)) ^ 365 ≤ limit i = rw (product_power 2 (10 ^ 10 + d) 365, limit_is i) (mul-le-mul_left _ (down_holds i)) in
+    let met : (2 * (10 ^ 10 + d)) ^ 365 ≤ limit i = rw (mul-pow 2 (10 ^ 10 + d) 365, limit_is i) (mul-le-mul_left _ (down_holds i)) in
     most i d (le_within i d (le_trans less met))
 
 -- one less than a number that meets the bound is not over the exact rate
@@ -37,7 +38,7 @@ up : (i d : ℕ) → within i d ≡ true → d ≤ suc (rounded_down i)
 up i zero t = omega arith
 up i (suc d) t =
     let less : (2 * (10 ^ 10 + d)) ^ 365 ≤ growth (suc d) = pow-le-pow_left (omega arith) _ in
-    let doubled = rw (product_power 2 (10 ^ 10 + d) 365, limit_is i) at (le_trans less (within_le i (suc d) t)) in
+    let doubled = rw (mul-pow 2 (10 ^ 10 + d) 365, limit_is i) at (le_trans less (within_le i (suc d) t)) in
     let below = down-most i d (le_of_mul-le-mul_left {k = 2 ^ 365} doubled (lit< tt)) in
     omega arith
 

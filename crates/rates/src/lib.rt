@@ -40,10 +40,11 @@ pub fn daily_rate(annual: u64) -> Result<u64, OverGreatest>
     if GREATEST < annual {
         return Err(OverGreatest);
     }
-    Ok(DAILY[annual as usize] as u64)
+    Ok(u64::from(DAILY[annual as usize]))
 }
 
 // What callers may rely on of daily rates, and the worked examples of the papers that speak of them alone. It does nothing.
+#[tactic(auto, using(crate::proofs::Laws::laws, crate::proofs::Examples::examples))]
 pub fn theorems()
     ensures { Laws × Examples }
 {}

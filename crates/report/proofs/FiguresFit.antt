@@ -12,12 +12,13 @@ use Rattle.book_model.specs.declared.Position.{Position}
 use Rattle.book_model.specs.Book.{empty_book, held}
 use Rattle.account.specs.Opening.{opening}
 use Rattle.account.specs.Invariant.{day_interest}
-use Rattle.general_laws.specs.Members.{all}
+use Rattle.std.specs.List.{list_all}
 use Rattle.book_model.specs.Outcome.{no_position}
 use Rattle.book_model.specs.Positions.{is_holder, holders}
 use Rattle.book_model.specs.Reached.{Reached}
 use Rattle.book_model.specs.Invariant.{OpenSound}
-use Rattle.general_laws.proofs.Choice.{by-test, both_true}
+use Rattle.std.proofs.lemmas.Bool.{and_parts}
+use Rattle.general_laws.proofs.Choice.{by-test}
 use Rattle.general_laws.proofs.Totals.{total_most_of}
 use Rattle.book_model.proofs.Callers.{sound}
 use Rattle.report.specs.Statements.{TotalsFit, PositionFits}
@@ -57,12 +58,12 @@ totals-fit b r = reached_cases (λ c. TotalsFit c.account) b r no_totals_fit (op
 
 -- The positions
 
-holder-most : (ps : List Position) (k : ℕ) → all is_holder (holders ps) ≡ true → (get_or ps k no_position).holder ≤ 999999999
+holder-most : (ps : List Position) (k : ℕ) → list_all is_holder (holders ps) ≡ true → (get_or ps k no_position).holder ≤ 999999999
 holder-most [] k right = omega arith
 holder-most (p ∷ ps) zero right =
     leb-true p.holder 999999999
-    (both_true (not (eqb p.holder 0)) (leb p.holder 999999999) (both_true (is_holder p.holder) (all is_holder (holders ps)) right).0).1
-holder-most (p ∷ ps) (suc k) right = holder-most ps k (both_true (is_holder p.holder) (all is_holder (holders ps)) right).1
+    (and_parts (not (eqb p.holder 0)) (leb p.holder 999999999) (and_parts (is_holder p.holder) (list_all is_holder (holders ps)) right).0).1
+holder-most (p ∷ ps) (suc k) right = holder-most ps k (and_parts (is_holder p.holder) (list_all is_holder (holders ps)) right).1
 
 no_position_fits : (k : ℕ) → PositionFits (get_or (held empty_book) k no_position)
 unfolding empty_book

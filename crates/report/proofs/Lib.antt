@@ -1,9 +1,8 @@
--- Facts about the definitions. `StatementLengths`, `FiguresFit` and `Examples` are what the crate states, `Callers` is what callers cite, the
--- others are what the code's proofs cite.
+-- Facts about the definitions. `StatementLengths`, `FiguresFit` and `Examples` are what the crate states, the others are what the code's proofs
+-- cite.
 mod StatementLengths
 mod FiguresFit
 mod Examples
 mod LineBytes
 mod PositionsPut
 mod StatementPut
-pub mod Callers

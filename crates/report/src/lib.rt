@@ -6,11 +6,13 @@ mod printing;
 ghost use Rattle.report.specs.Statements.{Statements};
 ghost use Rattle.line.specs.Line.{malformed_number};
 
-pub use crate::printing::report;
+pub use crate::printing::{report, write_report};
+use crate::printing::{POSITION_BYTES, TOTALS_BYTES};
 use answers::Numbered;
+use book::Book;
 
 // What every statement fits into: a B line and 64 H lines.
-pub const BYTES: usize = 3089;
+pub const BYTES: usize = TOTALS_BYTES + Book::POSITIONS * POSITION_BYTES;
 
 // The refusal of a buffer that is too short for some statement.
 #[derive(Clone, Copy, Debug, PartialEq, Eq)]

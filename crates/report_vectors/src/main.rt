@@ -12,6 +12,7 @@ const INPUT: usize = 262144;
 // The most bytes of a buffer.
 const BUFFER: usize = 4000;
 
+#[tactic(auto, unfolding(report::specs::Statement::report_of))]
 fn put_report(rt: &impl Print, file: &[u8], buffer: &mut [u8]) {
     match report(file, buffer) {
         Ok(count) => {
@@ -26,7 +27,7 @@ fn put_report(rt: &impl Print, file: &[u8], buffer: &mut [u8]) {
 
 // The next case: the buffer's size, and the file.
 fn run_case(rt: &impl Print, cases: &mut Cases) {
-    let size = BUFFER.min(cases.number() as usize);
+    let size = cases.count(BUFFER);
     let mut buffer = [0u8; BUFFER];
     fill(&mut buffer);
     put_report(rt, cases.bytes(), &mut buffer[..size]);

@@ -2,7 +2,7 @@
 #![tactic(auto)]
 
 use input::read_full;
-use report::{BYTES, report};
+use report::write_report;
 
 // The most bytes of a file.
 const FILE: usize = 65536;
@@ -10,9 +10,6 @@ const FILE: usize = 65536;
 // A read that fails counts as the input's end. It ends with 0 even where the output fails.
 fn main(rt: HostRuntime) {
     let mut buffer = [0u8; FILE];
-    let (file, _) = read_full(&mut rt.stdin(), &mut buffer);
-    let mut out = [0u8; BYTES];
-    if let Ok(count) = report(file, &mut out) {
-        let _ = rt.write_all(&out[..count]);
-    }
+    let (count, _) = read_full(&mut rt.stdin(), &mut buffer);
+    let _ = write_report(&buffer[..count], &mut rt.stdout());
 }

@@ -1,7 +1,7 @@
 -- No share and no unit-days are over their totals, so the sum fits 32 bits; and the next position gains its own.
 use Rattle.std.proofs.Common.{arith, ◌+◌, ◌*◌, ◌≤◌, get_or}
 use Rattle.book_model.specs.Book.{fresh}
-use Rattle.book_advance.proofs.Held.{gain_most, gained, all-gained}
+use Rattle.book_advance.proofs.Held.{gain_most, gained}
 use Rattle.book_advance.proofs.hold.Goals as goal
 use Rattle.book_advance.proofs.hold.Goals.{In-loop-position}
 
@@ -25,6 +25,3 @@ overflow_add-position c = omega (arith, most (goal.at.overflow_add-position c).I
 pub loop-position-preserved : goal.loop-position-preserved
 loop-position-preserved c =
     gained c.args.days.0 c.args.held.now _ _ c.loop-position.invariant c.loop-position-test.true
-
-pub returns : goal.returns
-returns c = all-gained c.args.days.0 c.args.held.now _ _ c.loop-position.invariant (omega arith)

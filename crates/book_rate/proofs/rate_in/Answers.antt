@@ -1,9 +1,7 @@
 -- The refusals in the order of the paper's table, and the replayed account where no test stops the call.
-use Rattle.std.proofs.Common.{rules, arith, ◌≡◌, refl, ap, ◌∙◌, ℕ, Err, false, ◌&&◌, leb, ◌+◌}
-use borrow.Author.Tests.{lt-ltb}
-use Rattle.calendar.proofs.Callers.{count-date, day_tells, no_date_tells, laws}
+use Rattle.std.proofs.Common.{rules, arith, ◌≡◌, ap, ◌∙◌, ℕ, false, ◌&&◌, leb, ◌+◌}
+use Rattle.calendar.proofs.Callers.{count-date, day_tells, laws}
 use Rattle.rates.proofs.Callers.{daily_tells, over_tells}
-use Rattle.book_model.specs.declared.Refusal.TheVariants as refusal
 use Rattle.book_model.specs.Rate.{rated}
 use Rattle.book_rate.proofs.Orders.{Dated, Placed, was, wrong_day, full, over, fits_after, stands_revised}
 use Rattle.book_rate.proofs.rate_in.Goals as goal
@@ -27,18 +25,12 @@ placed c = record {
   place = c.count_before-place.ensures;
 }
 
-pub returns-in_err-count : goal.returns-in_err-count
-unfolding rated
-returns-in_err-count c =
-    let told : c.from_residual.result ≡ Err refusal.Date = search rules in
-    rw (told, c.if-not-book.false, no_date_tells c.args.date c.in_err-count.ensures) refl
-
 pub returns-in_err-daily : goal.returns-in_err-daily
 unfolding rated
 returns-in_err-daily c =
-    let told : c.from_residual-in_err-daily.result ≡ Err refusal.Rate = search rules in
+    let over = over_tells c.args.annual c.in_err-daily.ensures in
     let counted = day_tells c.args.date c.in_ok-count.count c.in_ok-count.ensures in
-    rw (told, c.if-not-book.false, counted.is-date, lt-ltb 4000 c.args.annual (over_tells _ c.in_err-daily.ensures)) refl
+    search rules
 
 pub overflow_add-first : goal.overflow_add-first
 overflow_add-first c =

@@ -26,12 +26,6 @@ module _ (f : ℕ → ℕ) (ps now : List Position) (i : ℕ) (so_far : now ≡ 
       ∙ ap (λ (l : List Position). paid_from f 0 ps ++ l) (ap (λ (k : ℕ). drop k ps) many ∙ drop-length ps)
       ∙ append-nil (paid_from f 0 ps)
 
-pub overflow_add-position : goal.overflow_add-position
-overflow_add-position c =
-    let f = λ (k : ℕ). get_or c.args.portions.now k 0 in
-    let same = here f c.args.held.now c.loop-place.held c.loop-place.place c.loop-place.invariant.1 (omega arith) in
-    rw same (omega (arith, c.requires.receipts c.loop-place.place, c.requires.portions_small c.loop-place.place))
-
 pub loop-place-preserved : goal.loop-place-preserved
 loop-place-preserved c =
     (omega arith, one_paid (λ (k : ℕ). get_or c.args.portions.now k 0) c.args.held.now c.loop-place.held c.loop-place.place c.loop-place.invariant.1 (omega arith))

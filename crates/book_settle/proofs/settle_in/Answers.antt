@@ -1,8 +1,11 @@
 -- A settlement that is not refused: the account is one, the portions are the parts of the cents, and the book is the settled one.
-use Rattle.std.proofs.Common.{arith, rules, ◌≡◌, ℕ, ◌≤◌, ◌<◌, ◌++◌, List, Result, ◌-◌, length, length-take-le, drop, ap, ◌∙◌, Ok}
-use Rattle.general_laws.specs.Sums.{total}
+use Rattle.std.proofs.Common.{arith, rules, refl, false, Err, is_le, nat_cmp, ◌≡◌, ℕ, ◌≤◌, ◌<◌, ◌++◌, List, Result, ◌-◌, length, length-take-le, drop, ap, ◌∙◌, Ok}
+use Rattle.std.specs.List.{sum}
 use Rattle.account.specs.Invariant.{Fits}
-use Rattle.account.specs.Accrual.{interest_of}
+use Rattle.account.specs.Accrual.{interest_of, paid_off, worth}
+use Rattle.account.specs.Reckoning.{paid}
+use Rattle.account.specs.declared.Account.{Account}
+use Rattle.account.specs.declared.Unreckoned.{Unreckoned}
 use Rattle.account.specs.declared.Cents.{Cents}
 use Rattle.account.proofs.Callers.{fits, pays}
 use Rattle.apportionment.specs.Apportionment.{part, padded, apportioned}
@@ -15,12 +18,20 @@ use Rattle.book_model.specs.Outcome.{Answer, Outcome, answered}
 use Rattle.book_model.specs.Positions.{unit_days_column}
 use Rattle.book_model.specs.Settle.{settled, taken_of}
 use Rattle.book_model.proofs.Callers.{accepted, divided, parts-most, paid_by_parts, put-together, receipt_most}
+use Rattle.general_laws.proofs.Choice.{by_order}
+use borrow.Author.Tests.{lt-ltb, le-ltb, lt-leb}
+use Rattle.std.proofs.lemmas.Grind.{common_steps}
+use Rattle.std.proofs.lemmas.Bool.Decides.{nat_tests}
+use Rattle.book_model.specs.Advance.{last_settled}
 use Rattle.book_settle.proofs.settle_in.Goals as goal
-use Rattle.book_settle.proofs.settle_in.Goals.{Else-book-cents, After-apportion}
+use Rattle.book_settle.proofs.settle_in.Goals.{Else-le, After-apportion}
 
--- Past the last refusal
+after : (a b : ℕ) → false ≡ is_le (nat_cmp a b) → b < a
+after a b e = grind arith
 
-module _ (c : Else-book-cents) where
+-- a day after the last settlement
+
+module _ (c : Else-le) where
   known : OpenSound c.args.book.now
   known = c.requires.when_open c.if-not-book.false
 
@@ -39,27 +50,42 @@ module _ (c : Else-book-cents) where
   few : length (held c.args.book.now) ≤ 64
   few = omega (arith, many, known.positions-most)
 
-  days_some : 0 < total (unit_days_column (held c.args.book.now))
-  days_some = omega (arith, known.days-held, c.last_settled-last.ensures, c.if-book-last.false)
+  since : last_settled c.args.book.now < c.args.book.now.today.0
+  since = omega (arith, c.last_settled-last.ensures, after c.args.book.now.today.0 c.last_settled-last.result.0 c.if-le.ensures)
 
-  days_most : total (unit_days_column (held c.args.book.now)) ≤ 92000000
+  days_some : 0 < sum (unit_days_column (held c.args.book.now))
+  days_some = omega (arith, known.days-held, since)
+
+  days_most : sum (unit_days_column (held c.args.book.now)) ≤ 92000000
   days_most = omega (arith, known.days-held, known.settlement_near)
 
   parts : apportioned c.args.cents.0 (unit_days_column (held c.args.book.now)) ≡ Ok (padded (length (unit_days_column (held c.args.book.now))) (part c.args.cents.0 (unit_days_column (held c.args.book.now))))
   parts = divided (held c.args.book.now) some few days_some days_most c.args.cents.0 amount
 
-pub unwrap-book-requires : goal.unwrap-book-requires
-unwrap-book-requires c =
-    let at = (goal.at.unwrap-book-requires c).Else-book-cents in
-    rw (c.pay.ensures, pays c.args.book.now.account c.args.cents.0 (in_range at) (omega arith)) (search rules)
+-- what is paid where the account is one
+
+paid_where : (r : Result Account Unreckoned) (a : Account) (m : ℕ) → r ≡ paid a m → (x : Account) → r ≡ Ok x → (m ≤ worth a) × (x ≡ paid_off m a)
+unfolding paid
+paid_where r a m e x is = grind (arith, common_steps, nat_tests)
+
+over_where : (r : Result Account Unreckoned) (a : Account) (m : ℕ) → Fits a → r ≡ paid a m → (u : Unreckoned) → r ≡ Err u → worth a < m
+over_where r a m fit e u is = by_order (worth a) m (λ lt. lt) (λ le. absurd (let f = pays a m fit le in cc))
+
+pub returns-in_default : goal.returns-in_default
+unfolding settled
+returns-in_default c =
+    let past = (goal.at.returns-in_default c).Else-le in
+    let b = c.args.book.now in
+    let over = over_where c.pay.result b.account c.args.cents.0 (in_range past) c.pay.ensures _ c.in_default.is in
+    rw (c.if-not-book.false, le-ltb 100000000000 c.args.cents.0 (amount past), lt-leb 240 b.settled c.if-book-ge-SETTLEMENTS.false, lt-leb b.today.0 (last_settled b) (since past), lt-ltb (worth b.account) c.args.cents.0 over) refl
 
 pub unwrap-portions-requires : goal.unwrap-portions-requires
 unwrap-portions-requires c =
-    let at = (goal.at.unwrap-portions-requires c).Else-book-cents in
+    let at = (goal.at.unwrap-portions-requires c).Else-le in
     rw (c.apportion.ensures, c.weights_of-weights.ensures, parts at) (search rules)
 
 pub pay_out-requires-clause-receipts : goal.pay_out-requires-clause-receipts
-pay_out-requires-clause-receipts c = λ k. receipt_most c.args.book.now (known (goal.at.pay_out-requires-clause-receipts c).Else-book-cents) k
+pay_out-requires-clause-receipts c = λ k. receipt_most c.args.book.now (known (goal.at.pay_out-requires-clause-receipts c).Else-le) k
 
 -- what an answer holds is one value
 one_value : {T E : Type 0} (r : Result T E) (x y : T) → r ≡ Ok x → r ≡ Ok y → y ≡ x
@@ -71,12 +97,12 @@ module _ (c : After-apportion) (portions : List ℕ) (told : c.apportion.result 
   are : portions ≡ padded (length (unit_days_column (held c.args.book.now))) (part c.args.cents.0 (unit_days_column (held c.args.book.now)))
   are =
       one_value c.apportion.result _ portions
-      (c.apportion.ensures ∙ ap (apportioned c.args.cents.0) c.weights_of-weights.ensures ∙ parts (goal.at-After-apportion c).Else-book-cents) told
+      (c.apportion.ensures ∙ ap (apportioned c.args.cents.0) c.weights_of-weights.ensures ∙ parts (goal.at-After-apportion c).Else-le) told
 
 pub pay_out-requires-clause-portions_small : goal.pay_out-requires-clause-portions_small
 pay_out-requires-clause-portions_small c =
     let at = goal.at.pay_out-requires-clause-portions_small c in
-    let past = at.Else-book-cents in
+    let past = at.Else-le in
     parts-most (held c.args.book.now) (some past) (few past) (days_some past) (days_most past) c.args.cents.0 (amount past) c.unwrap-portions.result
     (are at.After-apportion c.unwrap-portions.result c.unwrap-portions.ensures)
 
@@ -92,12 +118,13 @@ pub returns : goal.returns
 unfolding with_account with_settlement
 returns c =
     let at = goal.at.returns c in
-    let past = at.Else-book-cents in
+    let past = at.Else-le in
     let b = c.args.book.now in
     let m = c.args.cents in
-    let right = accepted b m c.if-not-book.false (amount past) c.if-book-ge-SETTLEMENTS.false (omega (arith, c.last_settled-last.ensures, c.if-book-last.false)) c.if-book-cents.false in
+    let is = paid_where c.pay.result b.account m.0 c.pay.ensures _ c.in-Ok.is in
+    let right = accepted b m c.if-not-book.false (amount past) c.if-book-ge-SETTLEMENTS.false (since past) is.0 in
     let paid = c.pay_out.ensures ∙ paid_by_parts (held b) (some past) (few past) (days_some past) (days_most past) m.0 (amount past) c.unwrap-portions.result (are at.After-apportion c.unwrap-portions.result c.unwrap-portions.ensures) in
     made (settled b m) _ _
     (taken b m _ c.interest_of-interest.ensures ∙ ap (λ (o : Outcome Taken). o.answer) right)
-    (put-together b (omega (arith, c.requires.room-positions, (known past).positions-most)) m.0 _ c.unwrap-book.result (ap (λ (ps : List Position). ps ++ drop b.count b.positions) paid)
-    (one_value c.pay.result _ _ (c.pay.ensures ∙ pays b.account m.0 (in_range past) c.if-book-cents.false) c.unwrap-book.ensures) ∙ ap (λ (o : Outcome Taken). o.book) right)
+    (put-together b (omega (arith, c.requires.room-positions, (known past).positions-most)) m.0 _ c.in-Ok.after (ap (λ (ps : List Position). ps ++ drop b.count b.positions) paid)
+    is.1 ∙ ap (λ (o : Outcome Taken). o.book) right)

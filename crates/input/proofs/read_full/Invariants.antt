@@ -1,12 +1,11 @@
 -- The bytes read so far stand in the buffer's front, and each turn reads one more at least.
-use Rattle.std.proofs.Common.{◌≡◌, ◌-◌, ◌≤◌, length, take}
+use Rattle.std.proofs.Common.{◌-◌, ◌≤◌, length, take}
 use Rattle.std.specs.Io.KnownBytes.{Consumes}
 use Rattle.input.proofs.read_full.Given as goal
 
 abbrev pub invariant-loop-count : goal.invariant-loop-count
 invariant-loop-count g l =
     (l.count ≤ length l.buffer)
-    × (length l.buffer ≡ length l.initial.buffer)
     × Consumes (g.R.Read.remaining l.initial.input) (g.R.Read.remaining l.input) (take l.count l.buffer)
 
 abbrev pub decreases-loop-count : goal.decreases-loop-count

@@ -9,4 +9,4 @@ pub returns : goal.returns
 unfolding daily_rates
 returns c =
     let i = c.args.annual in
-    ap (λ (d : ℕ). (0, d)) (entry i (search rules)) ∙ sym (accepted i (omega arith))
+    ap (λ (d : ℕ). (0, d)) (c.from.ensures ∙ entry i (search rules)) ∙ sym (accepted i (omega arith))

@@ -1,12 +1,11 @@
 -- The theorems and the worked examples.
-use Rattle.report.specs.Statements.{Statements}
 use Rattle.report.proofs.Examples.{paper_printed, empty_file_printed, end_alone_printed}
 use Rattle.report.proofs.FiguresFit.{totals-fit, positions-fit}
 use Rattle.report.proofs.StatementLengths.{totals-length, position-length, refusal_length, book-length, statement-fits, empty_prints_nothing}
 use Rattle.report.proofs.theorems.Goals as goal
 
-statements : Statements
-statements =
+pub returns : goal.returns
+returns c =
     record {
       totals-length = totals-length;
       position-length = position-length;
@@ -20,7 +19,3 @@ statements =
       empty_file_printed = empty_file_printed;
       end_alone_printed = end_alone_printed;
     }
-
-pub returns : goal.returns
-returns c =
-    statements

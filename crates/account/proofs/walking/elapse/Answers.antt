@@ -1,25 +1,16 @@
--- The loop's invariant: the walk has gone on from its start, and no further than the end.
+-- One order on, and the days up to the end.
 use native.Mathlib.Omega.{arith}
-use mathlib.Core.Path.{refl, sym, ◌∙◌}
+use mathlib.Core.Path.{refl, sym, ap, ◌∙◌}
 use Rattle.std.proofs.lemmas.Grind.{common_steps}
 use Rattle.std.proofs.lemmas.List.{nil_from_length}
 use Rattle.account.specs.Walk.{Until}
-use Rattle.account.proofs.Walks.{walk_begins, no_next, walk-next, walk_ends}
+use Rattle.account.proofs.Walks.{walk-next, walk_ends}
 use Rattle.account.proofs.walking.elapse.Goals as goal
 use Rattle.account.proofs.walking.elapse.Goals.{in-Some+then-le, in_default}
 
-pub loop-next-init : goal.loop-next-init
-loop-next-init c = (walk_begins c.args.start c.requires.come, c.requires.end_bound.0)
-
-pub returns-then-not-is_next-clause-unordered : goal.returns-then-not-is_next-clause-unordered
-returns-then-not-is_next-clause-unordered c = (
-  refl,
-  no_next c.loop-next.invariant.0 _ _ c.in-Some.ensures.cases.0 (sym c.is_next.ensures ∙ c.if-not-is_next.true),
-)
-
 pub loop-next-preserved : goal.loop-next-preserved
 loop-next-preserved c = (
-  walk-next c.loop-next.invariant.0 _ _ c.in-Some.ensures.cases.0 (sym c.is_next.ensures ∙ c.if-not-is_next.false) _ refl refl refl c.accrue_days-walk.ensures,
+  walk-next c.loop-next.invariant.0 _ _ c.in-Some.ensures.cases.0 (sym c.is_next.ensures ∙ c.if-not-is_next.false) _ refl refl (ap (λ w. w.day) c.pass_to.ensures) (ap (λ w. w.account) c.pass_to.ensures),
   grind (arith, common_steps),
 )
 
@@ -31,4 +22,4 @@ returns-clause-went c =
       | in_default w ↦ rw (nil_from_length c.loop-next.walk.later.now w.in_default.ensures.cases) tt
     ]
     in
-    (walk_ends c.loop-next.invariant.0 _ c.loop-next.invariant.1 until refl refl c.accrue_days-walk-2.ensures, refl)
+    rw c.pass_to-2.ensures (walk_ends c.loop-next.invariant.0 _ c.loop-next.invariant.1 until, refl)

@@ -1,7 +1,8 @@
--- The lines of the places passed are in the buffer, and the next goes behind them.
-use Rattle.report.proofs.PositionsPut.{LinesPut}
+-- The lines of the places passed are in the buffer.
+use Rattle.std.proofs.Common.{◌≡◌, take}
+use Rattle.std.proofs.lemmas.List.Edits.{sets}
+use Rattle.report.specs.Statement.{position_lines}
 use Rattle.report.proofs.printing.put_positions.Given as goal
 
-abbrev pub invariant-loop-position : goal.invariant-loop-position
-invariant-loop-position l =
-    LinesPut l.initial.out l.held l.out l.position-index l.at
+abbrev pub invariant-loop-place : goal.invariant-loop-place
+invariant-loop-place l = l.out ≡ sets l.initial.out 81 (position_lines (take l.place l.held))

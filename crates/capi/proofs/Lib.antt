@@ -1,2 +1,0 @@
--- What the proofs of the exported functions cite.
-mod Told
