@@ -1,9 +1,6 @@
 -- Where no settlement is over due plus outstanding, the account of every day stays within the bounds of that day.
-use Prim.Native.Nat.{ℕ, zero, suc, ◌≤◌}
-use mathlib.Core.Path.{◌≡◌, refl}
-use mathlib.Core.Bool.{false}
-use mathlib.Core.List.{List}
-use mathlib.Core.Option.{Option, none, some}
+use Rattle.std.proofs.Common.{ℕ, zero, suc, ◌≤◌, ◌≡◌, refl, false, List}
+use Rattle.std.proofs.Math.Option.{Option, none, some}
 use Rattle.rates.specs.Rate.{greatest_daily}
 use Rattle.account.specs.declared.Account.{Account}
 use Rattle.account.specs.declared.Settlement.{Settlement}

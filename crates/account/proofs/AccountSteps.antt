@@ -1,10 +1,6 @@
 -- The account from day to day: days without a settlement elapse, and a settlement pays off.
-use Prim.Native.Nat.{ℕ, zero, suc, ◌+◌, ◌≤◌, ◌<◌}
-use native.Mathlib.Omega.{arith}
-use native.Mathlib.Nat.{add-zero, add-suc}
-use mathlib.Core.Path.{◌≡◌, refl, ap}
-use mathlib.Core.List.{List, [], ◌∷◌, ◌++◌}
-use mathlib.Core.Option.{Option, none}
+use Rattle.std.proofs.Common.{ℕ, zero, suc, ◌+◌, ◌≤◌, ◌<◌, arith, add-zero, add-suc, ◌≡◌, refl, ap, List, [], ◌∷◌, ◌++◌}
+use Rattle.std.proofs.Math.Option.{Option, none}
 use Rattle.account.specs.declared.Settlement.{Settlement}
 use Rattle.account.specs.Accrual.{accrued_day, paid_off}
 use Rattle.account.specs.Walk.{elapsed}

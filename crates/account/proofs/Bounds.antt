@@ -1,11 +1,6 @@
 -- The figures of an account stay within bounds: at most `day_interest` and a cent of interest a day, and no principal but the first.
-use Prim.Native.Nat.{ℕ, zero, suc, ◌+◌, ◌*◌, ◌/◌, ◌%◌, ◌≤◌}
-use native.Mathlib.Omega.{arith}
-use native.Mathlib.Nat.{mul-le-mul, min-le_right, add-zero, add-suc}
-use mathlib.Core.Path.{◌≡◌, refl}
-use mathlib.Core.Bool.{cond}
-use mathlib.Core.List.{List, [], ◌∷◌}
-use lib.Dec.{leb}
+use Rattle.std.proofs.Common.{ℕ, zero, suc, ◌+◌, ◌*◌, ◌/◌, ◌%◌, ◌≤◌, arith, mul-le-mul, add-zero, add-suc, ◌≡◌, refl, cond, List, [], ◌∷◌, leb}
+use Rattle.std.proofs.Math.Nat.{min-le_right}
 use Rattle.general_laws.proofs.Choice.{choice}
 use Rattle.rates.specs.Rate.{greatest_daily}
 use Rattle.account.specs.declared.Account.{Account}
@@ -21,6 +16,8 @@ use Rattle.account.specs.Walk.{elapsed}
 pub bounded-opening : (cents : ℕ) → cents ≤ 1000000000000 → Bounded 0 (opening cents)
 unfolding opening
 bounded-opening cents le = record { principal = omega arith; below = omega arith; interest = omega arith }
+
+pub ruleset bounds_begin = (bounded-opening)
 
 -- after at most 6,000 days each figure fits
 pub fits : (n : ℕ) (a : Account) → n ≤ 6000 → Bounded n a → Fits a

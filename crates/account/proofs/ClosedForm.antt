@@ -1,8 +1,5 @@
 -- Interest over k days at one rate, at once: with outstanding × d = q × 10^10 + r it is k × q + (fraction + k × r) / 10^10.
-use Prim.Native.Nat.{ℕ, zero, suc, ◌+◌, ◌*◌, ◌/◌, ◌%◌, ◌<◌}
-use native.Mathlib.Omega.{arith}
-use native.Mathlib.Nat.{mul-add, mul_assoc, mul_comm, suc-mul}
-use mathlib.Core.Path.{◌≡◌, sym, ap, ◌∙◌}
+use Rattle.std.proofs.Common.{ℕ, zero, suc, ◌+◌, ◌*◌, ◌/◌, ◌%◌, ◌<◌, arith, mul-add, mul_assoc, mul_comm, suc-mul, ◌≡◌, sym, ap, ◌∙◌}
 use Rattle.account.specs.declared.Account.{Account}
 use Rattle.account.specs.Accrual.{with_interest, accrued_day}
 use Rattle.account.specs.Accrual.{accrued_days}

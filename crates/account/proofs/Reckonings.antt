@@ -1,9 +1,5 @@
 -- The answers of the entries where every number is in range.
-use Prim.Native.Nat.{ℕ, ◌≤◌}
-use mathlib.Core.Path.{◌≡◌, ◌∙◌}
-use mathlib.Core.List.{List}
-use borrow.Author.Tests.{le-ltb}
-use lib.ListN.{length}
+use Rattle.std.proofs.Common.{ℕ, ◌≤◌, ◌≡◌, ◌∙◌, List, le-ltb, length}
 use Rattle.std.specs.Prelude.{Ok}
 use Rattle.rates.specs.Rate.{greatest_daily}
 use Rattle.account.specs.declared.Account.{Account}

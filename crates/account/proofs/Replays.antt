@@ -1,14 +1,7 @@
 -- The account evaluated from settlement to settlement is the account as a function of the day.
-use Prim.Native.Nat.{ℕ, ◌+◌, ◌-◌, ◌≤◌, ◌<◌}
-use native.Mathlib.Omega.{arith}
-use mathlib.Core.Path.{◌≡◌, refl, sym, ap, ◌∙◌}
-use mathlib.Core.Bool.{Bool, true, false, cond, not}
-use mathlib.Core.Option.{none}
-use mathlib.Core.List.{List, [], ◌∷◌, ◌++◌, append-nil}
-use borrow.Author.Tests.{ne_eqb, eqb-true, lt-ltb, le-ltb, le-leb}
-use lib.Dec.{ltb, eqb}
-use lib.ListN.{length, drop, get_or, drop_of_length-le}
-use lib.Seq.{append_snoc}
+use Rattle.std.proofs.Common.{ℕ, ◌+◌, ◌-◌, ◌≤◌, ◌<◌, arith, ◌≡◌, refl, sym, ap, ◌∙◌, Bool, true, false, cond, not, List, [], ◌∷◌, ◌++◌, append-nil, ne_eqb, eqb-true, lt-ltb, le-ltb, le-leb, ltb, eqb, length, drop, get_or, drop_of_length-le}
+use Rattle.std.proofs.Math.Option.{none}
+use Rattle.std.proofs.Math.Seq.{append_snoc}
 use Rattle.std.proofs.lemmas.Bool.{and_parts}
 use Rattle.std.specs.Prelude.{Result, Ok, Err}
 use Rattle.std.proofs.lemmas.List.{drop_more}
@@ -23,11 +16,11 @@ use Rattle.account.specs.Opening.{opening, no_settlement}
 use Rattle.account.specs.Invariant.{Timely}
 use Rattle.account.specs.Ranges.{is_first, is_rising, is_schedule, is_timely}
 use Rattle.account.specs.Schedule.{in_force, stored_on}
-use Rattle.account.specs.Walk.{elapsed, ahead, Come, Went, replay_from, left_of}
+use Rattle.account.specs.Walk.{elapsed}
+use Rattle.account.specs.Walked.{ahead, Went, replay_from, left_of}
 use Rattle.account.specs.Reckoning.{standing}
 use Rattle.account.specs.Standing.{settled_on, day_begins, account_at, is_over, some_of, overpaid}
 use Rattle.account.proofs.AccountSteps.{begins-same, account-elapsed, account_paid_off}
-use Rattle.account.proofs.Bounds.{bounded-paid}
 use Rattle.account.proofs.RangeTests.{timely_says}
 use Rattle.account.proofs.Segments.{elapsed_same}
 use Rattle.account.proofs.SettledDays.{none_yet, settled-first, settled-other}
@@ -87,13 +80,6 @@ replay_same daily daily' (s ∷ ss) today a from timely same =
     (ap (cond (ltb (worth (elapsed daily' from (s.day.0 - from) a)) s.cents.0) (Err Overpaid))
     (replay_same daily daily' ss today (paid_off s.cents.0 (elapsed daily' from (s.day.0 - from) a)) s.day.0 timely.1 (λ t le. same t (omega (arith, timely.0)))))
 
--- a walk with another account
-abbrev pub with_account : Elapsed → Account → Elapsed
-with_account w a = record { account = a; day = w.day; order = w.order; later = w.later }
-
-pub paid_comes : (w : Elapsed) (m : ℕ) → Come w → m ≤ worth w.account → Come (with_account w (paid_off m w.account))
-paid_comes w m come le = record { bounded = bounded-paid w.day.0 m w.account le come.bounded; begun = come.begun; low = come.low; next = come.next }
-
 -- an answer behind two tests
 abbrev pub tested : Bool → Bool → Result Account Unreckoned → Result Account Unreckoned
 tested rising timely r = cond (not rising) (Err OutOfRange) (cond (not timely) (Err OutOfRange) r)
@@ -133,16 +119,18 @@ module _ (over : Bool) {before w : Elapsed} (g : Went before w) (ss : List Settl
         (λ r t. rw (turned r, lt-ltb (worth w.account) (get_or ss i no_settlement).cents.0 h) (grind arith)))
 
     -- one that is not
-    pub turn_paid : (get_or ss i no_settlement).cents.0 ≤ worth w.account
-        → left_of over before (drop i ss) today ≡ left_of over (with_account w (paid_off (get_or ss i no_settlement).cents.0 w.account)) (drop (i + 1) ss) today
+    pub turn_paid : (get_or ss i no_settlement).cents.0 ≤ worth w.account → (after : Elapsed) → after.order ≡ w.order → after.later ≡ w.later
+        → after.day ≡ w.day → after.account ≡ paid_off (get_or ss i no_settlement).cents.0 w.account
+        → left_of over before (drop i ss) today ≡ left_of over after (drop (i + 1) ss) today
     unfolding left_of is_timely
-    turn_paid h =
-        rw (drop_more ss i no_settlement lt, ← g.left, day, lt-ltb before.day.0 (get_or ss i no_settlement).day.0 later)
+    turn_paid h after order orders same e =
+        simp (order, orders, same, e)
+        (rw (drop_more ss i no_settlement lt, ← g.left, day, lt-ltb before.day.0 (get_or ss i no_settlement).day.0 later)
         (tested_same (is_rising before.order.now.first.0 before.later.now) (is_timely (get_or ss i no_settlement).day.0 (drop (i + 1) ss) today) _ _
         (λ r t. rw (turned r, le-ltb (worth w.account) (get_or ss i no_settlement).cents.0 h)
         (ap (cond over (Err Overpaid))
-        (replay_same (ahead before) (ahead w) (drop (i + 1) ss) today (paid_off (get_or ss i no_settlement).cents.0 w.account) (get_or ss i no_settlement).day.0
-        (timely_says (get_or ss i no_settlement).day.0 (drop (i + 1) ss) today t) (λ t le. g.same-rates r t (omega arith))))))
+        (replay_same (ahead before) (ahead after) (drop (i + 1) ss) today (paid_off (get_or ss i no_settlement).cents.0 w.account) (get_or ss i no_settlement).day.0
+        (timely_says (get_or ss i no_settlement).day.0 (drop (i + 1) ss) today t) (λ t le. rw (order, orders) (g.same-rates r t (omega arith))))))))
 
   -- behind the last settlement
   pub ended : length ss ≤ i → w.day.0 ≡ today → is_rising w.order.now.first.0 w.later.now ≡ true
@@ -158,7 +146,7 @@ pub left_all : (cents today : ℕ) (w : Elapsed) (ss : List Settlement) (rates :
     → left_of false w ss today ≡ tested (is_schedule rates) (is_timely 0 ss today) (standing cents (stored_on rates) ss today)
 unfolding left_of is_schedule in_force
 left_all cents today w ss rates e account day first =
-    rw (e, account, day, first)
+    simp (e, account, day, first)
     (tested_same (is_rising w.order.now.first.0 w.later.now) (is_timely 0 ss today) _ _
     (λ r t.
     let timely = timely_says 0 ss today t in

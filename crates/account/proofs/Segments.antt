@@ -1,18 +1,14 @@
 -- While one order holds, the days are days at its rate.
-use Prim.Native.Nat.{ℕ, zero, suc, ◌+◌, ◌≤◌, ◌<◌}
-use native.Mathlib.Omega.{arith}
-use native.Mathlib.Nat.{add-zero, add-suc, add_assoc}
-use mathlib.Core.Path.{◌≡◌, refl, sym}
-use mathlib.Core.Bool.{cond}
-use mathlib.Core.List.{List, [], ◌∷◌, ◌++◌}
-use borrow.Author.Tests.{le-leb, lt-leb}
-use lib.Dec.{leb}
+use Rattle.std.proofs.Common.{ℕ, zero, suc, ◌+◌, ◌≤◌, ◌<◌, arith, add-zero, add-suc, add_assoc, ◌≡◌, refl, sym, true, cond, List, [], ◌∷◌, ◌++◌, le-leb, leb}
+use Rattle.std.proofs.lemmas.Bool.{and_parts, lt-leb}
 use Rattle.account.specs.declared.Account.{Account}
 use Rattle.account.specs.declared.RateOrder.{RateOrder}
 use Rattle.account.specs.Schedule.{in_force, stored_on}
 use Rattle.account.specs.Accrual.{accrued_days}
 use Rattle.account.specs.Invariant.{Rising}
-use Rattle.account.specs.Walk.{elapsed, Until}
+use Rattle.account.specs.Ranges.{is_next, is_rising}
+use Rattle.account.specs.Walk.{elapsed, Next}
+use Rattle.account.proofs.RangeTests.{rising_says}
 
 -- Properties of elapsed
 
@@ -43,11 +39,13 @@ none-begun of daily [] day t r le = refl
 none-begun of daily (o ∷ os) day t r le =
     rw (lt-leb o.first.0 t (omega (arith, r.0))) (none-begun of daily os o.first.0 t r.1 (omega (arith, r.0)))
 
-pub none_until : (of : RateOrder → ℕ) (daily : ℕ) (os : List RateOrder) (day to t : ℕ) → Rising day os → Until to os → t < to → in_force of daily os t ≡ daily
-unfolding in_force
-none_until of daily [] day to t r until lt = refl
-none_until of daily (o ∷ os) day to t r until lt =
-    rw (lt-leb o.first.0 t (omega (arith, until))) (none-begun of daily os o.first.0 t r.1 (omega (arith, until)))
+pub none_until : (of : RateOrder → ℕ) (daily : ℕ) (os : List RateOrder) (day to t : ℕ) → is_rising day os ≡ true → Next day to os → t < to → in_force of daily os t ≡ daily
+unfolding in_force is_rising
+none_until of daily [] day to t r next lt = refl
+none_until of daily (o ∷ os) day to t r next lt =
+    let h = and_parts (is_next day o) _ r in
+    let begins = next o os refl h.0 in
+    rw (lt-leb o.first.0 t (omega arith)) (none-begun of daily os o.first.0 t (rising_says _ _ h.1) (omega arith))
 
 -- From the day on which the last order has begun, its daily rate holds
 

@@ -1,8 +1,5 @@
 -- Stored settlements beside today: a later today, and one settlement more.
-use Prim.Native.Nat.{ℕ, ◌≤◌, ◌<◌}
-use native.Mathlib.Omega.{arith}
-use mathlib.Core.Path.{◌≡◌, refl}
-use mathlib.Core.List.{List, [], ◌∷◌, ◌++◌}
+use Rattle.std.proofs.Common.{ℕ, ◌≤◌, ◌<◌, arith, ◌≡◌, refl, List, [], ◌∷◌, ◌++◌}
 use Rattle.account.specs.declared.Settlement.{Settlement}
 use Rattle.account.specs.Schedule.{last_day}
 use Rattle.account.specs.Invariant.{Timely}

@@ -5,7 +5,8 @@ use Rattle.account.specs.declared.Account.{Account}
 use Rattle.account.specs.declared.RateOrder.{RateOrder}
 use Rattle.account.specs.declared.Settlement.{Settlement}
 
--- figures that the arithmetic of one step fits; no invariant of `Account`, since every entry takes any numbers
+-- figures that the arithmetic of one step fits; no invariant of `Account`, since every entry takes any numbers, and a type of accounts that fit would be made
+-- and taken apart at each entry: a walk alone keeps one
 pub record Fits (a : Account) : Type 0 where
   pub principal : a.outstanding.0 ≤ 1000000000000
   pub interest : a.due.0 ≤ 1000000000000

@@ -1,4 +1,4 @@
--- The definitions that the contracts cite. `Invariant` and `Walk` are cited by private ones alone.
+-- The definitions that the contracts cite. `Invariant`, `Walk` and `Walked` are cited by private ones alone.
 pub mod Opening
 pub mod Accrual
 pub mod Schedule
@@ -7,3 +7,4 @@ pub mod Ranges
 pub mod Reckoning
 pub mod Invariant
 pub mod Walk
+pub mod Walked

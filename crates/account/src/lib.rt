@@ -1,5 +1,6 @@
 // The account of a right (document 01, "Advance", "Settle" and "Rate"): interest accrues by days, a settlement pays interest first, and
-// rates and settlements lead to the account of a day. Every entry takes any numbers, and answers `OutOfRange` where they are no account.
+// rates and settlements lead to the account of a day. Every entry takes any numbers, and those that reckon
+// answer `OutOfRange` where they are no account.
 #![tactic(auto)]
 
 ghost use Rattle.std.specs.Prelude.{◌≡◌};
@@ -18,21 +19,21 @@ pub use crate::paying::{interest_of, pay};
 pub use crate::replaying::replay;
 
 // Money, in whole cents.
-#[derive(Clone, Copy, PartialEq, Eq, PartialOrd, Ord)]
+#[derive(Clone, Copy, Default, PartialEq, Eq, PartialOrd, Ord)]
 pub struct Cents(pub u64);
 
 // A day of the right, counted from its first day, day 0; or a count of days.
-#[derive(Clone, Copy, PartialEq, Eq, PartialOrd, Ord)]
+#[derive(Clone, Copy, Default, PartialEq, Eq, PartialOrd, Ord)]
 pub struct Day(pub u32);
 
-#[derive(Clone, Copy)]
+#[derive(Clone, Copy, Default)]
 pub struct Settlement {
     pub day: Day,
     pub cents: Cents,
 }
 
 // An annual rate, in thousandths of a percent, from its first day on; and its daily rate, in units of 1/10^10, which follows from it.
-#[derive(Clone, Copy)]
+#[derive(Clone, Copy, Default)]
 pub struct RateOrder {
     pub first: Day,
     pub annual: u64,
@@ -40,7 +41,7 @@ pub struct RateOrder {
 }
 
 // The money of a right: the fraction of a cent of interest due is in units of 1/10^10.
-#[derive(Clone, Copy)]
+#[derive(Clone, Copy, Default)]
 pub struct Account {
     pub outstanding: Cents,
     pub due: Cents,
@@ -72,10 +73,7 @@ impl Account {
     {
         Account {
             outstanding: cents,
-            due: Cents(0),
-            fraction: 0,
-            principal_paid: Cents(0),
-            interest_paid: Cents(0),
+            ..Account::default()
         }
     }
 

@@ -1,24 +1,22 @@
 // The account that rates and settlements lead to, from the opening on.
 ghost use Rattle.std.specs.Prelude.{◌≡◌, ◌≤◌, false};
 ghost use Rattle.account.specs.Reckoning.{replayed};
-ghost use Rattle.account.specs.Walk.{Come, left_of};
+ghost use Rattle.account.specs.Walked.{left_of};
 
-use crate::paying::pay_off;
 use crate::ranges::{are_rising, is_first};
-use crate::walking::{Elapsed, elapse};
+use crate::walking::Elapsed;
 use crate::{Account, Cents, Day, RateOrder, Settlement, Unreckoned};
 
-// From a day to today, settlement by settlement: the cost follows settlements and rates, not days. Each settlement and each order is
-// tested as the walk comes to it. A settlement that is over is not paid, and the walk goes on: numbers out of range are told before it.
+// From a day to today, settlement by settlement: the cost follows settlements and rates, not days. Each settlement and each order is tested as the walk
+// comes to it, the orders behind today at its end. A settlement that is over is not paid and the walk goes on, as numbers out of range are told first.
 #[tactic(auto, using(crate::proofs::RangeTests::not_later, crate::proofs::RangeTests::after_today, crate::proofs::Replays::unordered, crate::proofs::Replays::untimely))]
 fn replay_from(
     start: Elapsed,
     settlements: &[Settlement],
     today: Day,
 ) -> Result<Account, Unreckoned>
-    requires come { Come start }
     // At most 6,000 days is no invariant of `Day`, since every entry takes any numbers.
-    requires today_bound { (start.day.0 ≤ today.0) × (today.0 ≤ 6000) }
+    requires { (start.day.0 ≤ today.0) × (today.0 ≤ 6000) }
     ensures { result ≡ left_of false start.entry settlements.now today.0 }
 {
     let mut walk = start;
@@ -27,14 +25,14 @@ fn replay_from(
         if settlement.day <= walk.day || today < settlement.day {
             return Err(Unreckoned::OutOfRange);
         }
-        walk = elapse(walk, settlement.day)?;
+        walk = walk.elapse(settlement.day)?;
         if walk.account.worth() < settlement.cents {
             outcome = Err(Unreckoned::Overpaid);
         } else {
-            walk.account = pay_off(walk.account, settlement.cents);
+            walk = walk.pay(settlement.cents);
         }
     }
-    let last = elapse(walk, today)?;
+    let last = walk.elapse(today)?;
     if !are_rising(last.order, last.later) {
         return Err(Unreckoned::OutOfRange);
     }
@@ -42,7 +40,7 @@ fn replay_from(
     Ok(last.account)
 }
 
-#[tactic(auto, using(crate::proofs::Replays::left_all), unfolding(crate::specs::Ranges::is_schedule, crate::specs::Reckoning::replayed))]
+#[tactic(auto, using(crate::proofs::Replays::left_all, crate::proofs::Bounds::bounds_begin), unfolding(crate::specs::Ranges::is_schedule, crate::specs::Reckoning::replayed))]
 pub fn replay(
     recognised: Cents,
     rates: &[RateOrder],

@@ -4,7 +4,7 @@
 ghost use Rattle.std.specs.Prelude.{◌≡◌, ℕ};
 ghost use Rattle.answers.specs.Answers.{number_in};
 
-// A reason of refusal, with its number in the table.
+// A reason of refusal, with its number in the table. One that stands alone is a unit struct: its name tells more in a signature than a number would.
 pub trait Numbered {
     ghost number: { Self → ℕ };
 

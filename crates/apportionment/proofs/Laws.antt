@@ -1,13 +1,6 @@
 -- The laws of the division.
-use Prim.Native.Nat.{ℕ, ◌+◌, ◌-◌, ◌*◌, ◌≤◌, ◌<◌}
-use native.Mathlib.Omega.{arith}
-use native.Mathlib.Nat.{div-add-mod, mod-lt, mul-add, mul_comm, mul-zero, zero-div, zero-mod, le_of_mul-le-mul_left, lt_of_mul-lt-mul_left}
-use mathlib.Core.Path.{◌≡◌, sym, ap, ◌∙◌}
-use mathlib.Core.Bool.{true, cond}
-use mathlib.Core.List.{List, [], ◌∷◌}
-use lib.Dec.{ltb}
-use lib.ListN.{length}
-use borrow.Author.Tests.{ltb-true, lt-ltb, le-ltb}
+use Rattle.std.proofs.Common.{ℕ, ◌+◌, ◌-◌, ◌*◌, ◌≤◌, ◌<◌, arith, mod-lt, mul-add, mul_comm, mul-zero, ◌≡◌, sym, ap, ◌∙◌, true, cond, List, [], ◌∷◌, ltb, length, ltb-true, lt-ltb, le-ltb}
+use Rattle.std.proofs.Math.Nat.{div-add-mod, zero-div, zero-mod, le_of_mul-le-mul_left, lt_of_mul-lt-mul_left}
 use Rattle.std.specs.List.{sum}
 use Rattle.general_laws.specs.Sums.{sum_below, count_below}
 use Rattle.general_laws.proofs.Choice.{by_order}

@@ -1,11 +1,6 @@
 -- Of n positions ordered by remainder, greatest first and earlier first among equals, exactly l have a rank below l.
-use Prim.Native.Nat.{ℕ, zero, suc, ◌+◌, ◌≤◌, ◌<◌}
-use native.Mathlib.Omega.{arith}
-use mathlib.Core.Path.{◌≡◌, ap}
-use mathlib.Core.Bool.{true, false, cond}
-use lib.Dec.{ltb}
+use Rattle.std.proofs.Common.{ℕ, zero, suc, ◌+◌, ◌≤◌, ◌<◌, arith, ◌≡◌, ap, true, false, cond, ltb, lt-ltb, le-ltb}
 use Rattle.std.proofs.lemmas.Bool.Decides.{nat_tests}
-use borrow.Author.Tests.{lt-ltb, le-ltb}
 use Rattle.general_laws.specs.Sums.{count_below}
 use Rattle.general_laws.proofs.Choice.{by_order, ltb_same}
 use Rattle.general_laws.proofs.Counts.{bit_true, bit_false, count_same, count_le, count_lt, count-suc, count_most}

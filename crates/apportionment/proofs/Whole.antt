@@ -1,14 +1,5 @@
 -- What the code may rely on where the amount and the weights are accepted: its numbers fit, and they are those of the definitions.
-use Prim.Native.Nat.{ℕ, ◌+◌, ◌*◌, ◌/◌, ◌%◌, ◌≤◌, ◌<◌}
-use native.Mathlib.Omega.{arith}
-use native.Mathlib.Nat.{mul-le-mul}
-use mathlib.Core.Path.{◌≡◌, ap}
-use mathlib.Core.Bool.{cond}
-use mathlib.Core.List.{List}
-use lib.Dec.{ltb}
-use lib.ListN.{length, take}
-use lib.Seq.{length-take-le}
-use borrow.Author.Tests.{lt-ltb, le-ltb}
+use Rattle.std.proofs.Common.{ℕ, ◌+◌, ◌*◌, ◌/◌, ◌%◌, ◌≤◌, ◌<◌, arith, mul-le-mul, ◌≡◌, ap, cond, List, ltb, length, take, length-take-le, lt-ltb, le-ltb}
 use Rattle.general_laws.specs.Sums.{sum_below, list_below}
 use Rattle.general_laws.proofs.Choice.{by_order}
 use Rattle.general_laws.proofs.Counts.{bit_false, count_same}

@@ -17,8 +17,8 @@ pub fn count_above(remainders: &[u32], bound: u32) -> u32
         .sum()
 }
 
-// The remainder at which the leftover units run out, found by halving their range: 27 counts at most below 92,000,000, and none where all are equal. So
-// no index is counted.
+// The remainder at which the leftover units run out, found by halving their range: 27 counts at most below 92,000,000, and none where all are equal. The
+// loop goes through numbers, not places. At most 64 remainders, as `count_above` asks it: an ArrayVec would say it, and cost what `divided` tells.
 pub fn threshold(remainders: &[u32], leftover: u32) -> u32
     requires { (0 < leftover) × (leftover ≤ length remainders.now) × (length remainders.now ≤ 64) }
     ensures { Threshold remainders.now leftover result }
@@ -49,7 +49,7 @@ pub fn hand_out(parts: &mut [u64; POSITIONS], remainders: &[u32], leftover: u32)
 {
     let bound = threshold(remainders, leftover);
     let mut spare = leftover - count_above(remainders, bound);
-    // By index: no proof was found of what zip over iter_mut leaves.
+    // By index: no proof was found of what a zip over iter_mut leaves.
     for (i, &remainder) in remainders.iter().enumerate() {
         if remainder == bound && 0 < spare {
             parts[i] += 1;

@@ -29,7 +29,7 @@ pub enum Undivided {
     Weight,
 }
 
-// What each position receives, and 0 behind the last of them.
+// What each position receives, and 0 behind the last of them: an array, which is copied, as an ArrayVec isn't.
 #[tactic(auto, unfolding(crate::specs::Apportionment::apportioned))]
 pub fn apportion(amount: u64, weights: &[u64]) -> Result<[u64; POSITIONS], Undivided>
     ensures { result ≡ apportioned amount weights.now }

@@ -23,8 +23,9 @@ pub fn divided(amount: u64, weights: &[u64], total: u64) -> [u64; POSITIONS]
     let mut parts = [0u64; POSITIONS];
     let mut remainders = [0u32; POSITIONS];
     let mut leftover = amount;
-    // By index: no proof was found of what zip over iter_mut leaves. The leftover is counted along: with a sum of all 64 parts behind the loop, a division
-    // among two takes 1.2 times the instructions.
+    // By index: no proof was found of what a zip over iter_mut leaves. The remainders are an array too: as an ArrayVec filled by push, a settlement among
+    // 64 takes 1.065 times the instructions. The leftover is counted along: with a sum of all 64 parts behind the loop, a division among two takes 1.2
+    // times the instructions.
     for (i, &weight) in weights.iter().enumerate() {
         let product = amount * weight;
         let quotient = product / total;

@@ -1,5 +1,7 @@
 // The book of one collection right (document 01, "The book"): everything that a program calls, from the crates that have it. A book goes in by
-// value and comes back by value, or stays with the caller (the calls in place). That it equals the tally after every list of calls is the theorem of the crate `conservation`.
+// value and comes back by value, or stays with the caller (the calls in place); the calls have the arguments that document 01 names, Open's six in
+// one struct. That the book equals
+// the tally after every list of calls is the theorem of the crate `conservation`.
 #![tactic(auto)]
 
 pub use account::{Account, Cents, Day, RateOrder, Settlement};

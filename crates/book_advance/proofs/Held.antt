@@ -1,8 +1,6 @@
 -- Positions that gain their unit-days one by one, and the sum of those they have.
-use Rattle.std.proofs.Common.{arith, ℕ, ◌≡◌, ◌+◌, ◌*◌, ◌≤◌, ◌<◌, List, map, refl, sym, ap, ◌∙◌, length, get_or, set}
-use native.Mathlib.Nat.{mul-le-mul_right}
-use lib.ListN.{length-map}
-use Rattle.std.proofs.lemmas.List.{get_or-map}
+use Rattle.std.proofs.Common.{arith, ℕ, ◌≡◌, ◌+◌, ◌*◌, ◌≤◌, ◌<◌, List, map, refl, sym, ap, ◌∙◌, length, get_or, set, mul-le-mul_right}
+use Rattle.std.proofs.lemmas.List.{get_or-map, length-map}
 use Rattle.std.specs.List.{sum}
 use Rattle.general_laws.proofs.Fronts.{filled, filled_at, filled_step}
 use Rattle.general_laws.proofs.Totals.{total_most_of}

@@ -1,6 +1,6 @@
 -- The cases of Advance in an open book, and the book after its days, which pass at once.
 use Rattle.std.proofs.Common.{arith, rules, ℕ, ◌≡◌, ◌+◌, ◌-◌, ◌*◌, ◌≤◌, ◌<◌, List, ◌++◌, map, sym, ap, ◌∙◌, true, length, get_or, drop}
-use lib.ListN.{length-map}
+use Rattle.std.proofs.lemmas.List.{length-map}
 use Rattle.std.specs.Prelude.{Ok}
 use Rattle.std.specs.List.{sum}
 use Rattle.calendar.proofs.Callers.{Counted, count-date, laws}

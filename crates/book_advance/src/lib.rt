@@ -1,8 +1,9 @@
 // Advance (document 01): days pass, positions gain unit-days and interest accrues.
 #![tactic(auto)]
 
-ghost use Rattle.std.specs.Prelude.{◌≡◌, map, ◌+◌, ◌*◌, ◌≤◌, length, sum};
+ghost use Rattle.std.specs.Prelude.{◌≡◌, map, ◌+◌, ◌*◌, ◌≤◌, sum};
 ghost use Rattle.book_model.specs.Advance.{advanced};
+ghost use Rattle.book_model.specs.Book.{held};
 ghost use Rattle.book_model.specs.Called.{stated};
 ghost use Rattle.book_model.specs.Closed.{days_held};
 ghost use Rattle.book_model.specs.Invariant.{Sound};
@@ -12,11 +13,11 @@ ghost use Rattle.book_model.specs.Positions.{shares, unit_days_column};
 use book_model::{Book, Called, Day, Position, ReachedBook, Refusal, count_of};
 
 // The unit-days of all positions together: 1,000,000 for each day since the last settlement.
-fn unit_days_of(held: &[Position]) -> u64
-    requires { length held.now ≤ 64 }
-    ensures { result ≡ sum (unit_days_column held.now) }
+fn unit_days_of(book: &Book) -> u64
+    ensures { result ≡ sum (unit_days_column (held book.now)) }
 {
-    held.iter()
+    book.held()
+        .iter()
         .map(|position| u64::from(position.unit_days))
         .sum()
 }
@@ -46,11 +47,12 @@ fn advance_in(book: &mut Book, date: u32) -> Result<Day, Refusal>
     let count = calendar::day_count(date)?;
     let first = count_of(book.first);
     let today = first + book.today.0;
+    // By two comparisons, as of a range the check asks that its end plus 1 fits.
     if count <= today || first + book.term.0 < count {
         return Err(Refusal::Day);
     }
     let days = Day(count - today);
-    let unit_days = unit_days_of(&book.positions[..book.count]);
+    let unit_days = unit_days_of(book);
     let most = Book::PARTS * u64::from(Book::SETTLEMENT_DAYS);
     if most < unit_days + Book::PARTS * u64::from(days.0) {
         return Err(Refusal::SettlementPending);
@@ -63,7 +65,7 @@ fn advance_in(book: &mut Book, date: u32) -> Result<Day, Refusal>
     Ok(days)
 }
 
-// The same on a book that the caller keeps.
+// The same on a reached book that the caller keeps.
 pub fn advance_in_place(book: &mut ReachedBook, date: u32) -> Result<Day, Refusal>
     ensures { outcome no_days result book.new.book ≡ advanced book.old.book date }
 {

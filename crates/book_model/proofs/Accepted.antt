@@ -1,13 +1,6 @@
 -- A call is accepted where all of its conditions hold; otherwise it is refused and the book stays.
-use Prim.Native.Nat.{ℕ, ◌+◌, ◌-◌, ◌≤◌, ◌<◌}
-use native.Mathlib.Omega.{arith}
-use mathlib.Core.Path.{◌≡◌}
-use mathlib.Core.Bool.{true, false, not, ◌&&◌, ◌||◌}
-use mathlib.Core.List.{List}
-use borrow.Author.Tests.{eqb-false, leb-true, leb-false, ltb-false, not-true, not-false}
-use lib.Dec.{eqb, leb, ltb}
-use lib.ListN.{length}
-use Rattle.std.proofs.lemmas.Bool.{and_parts, or_parts}
+use Rattle.std.proofs.Common.{ℕ, ◌+◌, ◌-◌, ◌≤◌, ◌<◌, arith, ◌≡◌, true, false, not, ◌&&◌, ◌||◌, List, leb-true, leb-false, ltb-false, eqb, leb, ltb, length}
+use Rattle.std.proofs.lemmas.Bool.{and_parts, or_parts, eqb-false, not-true, not-false}
 use Rattle.general_laws.proofs.Choice.{choice}
 use Rattle.calendar.specs.Calendar.{is_date, day_count}
 use Rattle.account.specs.declared.Account.{Account}

@@ -1,10 +1,6 @@
 -- Advance keeps a book sound.
-use Prim.Native.Nat.{ℕ, ◌+◌, ◌≤◌}
-use native.Mathlib.Omega.{arith}
-use mathlib.Core.Path.{◌≡◌, ◌∙◌}
-use mathlib.Core.Bool.{true}
-use mathlib.Core.List.{map}
-use lib.ListN.{length, length-append, length-drop, length-map}
+use Rattle.std.proofs.Common.{ℕ, ◌+◌, ◌≤◌, arith, ◌≡◌, ◌∙◌, true, map, length, length-append, length-drop}
+use Rattle.std.proofs.lemmas.List.{length-map}
 use Rattle.book_model.specs.declared.Book.{Book}
 use Rattle.book_model.specs.Advance.{last_settled, days_passed, advanced}
 use Rattle.book_model.specs.Book.{held, rates_of, settlements_of, with_held, with_account, with_today}

@@ -23,7 +23,7 @@ pub use Rattle.book_model.proofs.Places.{found_at, found_nothing, share-at}
 -- Positions after parts of a share went from a cedent to an assignee: what stays the same.
 pub use Rattle.book_model.proofs.Assigned.{assigned, receipts-kept}
 -- The cases of Transfer.
-pub use Rattle.book_model.proofs.Transfers.{Cedent, held-count, moved-between, moved-full, moved-last, moved_none, moved-over, share-most, transfer-other}
+pub use Rattle.book_model.proofs.Transfers.{Cedent, moved-between, moved-last, moved_none, moved-over, share-most, transfer-other}
 -- Every reached book is sound.
 pub use Rattle.book_model.proofs.Kept.{empty-sound, sound}
 pub use Rattle.book_model.proofs.SoundOnce.{is_sound}

@@ -1,9 +1,6 @@
 -- A book's positions in use after others replace them.
-use Prim.Native.Nat.{◌≤◌}
-use mathlib.Core.Path.{◌≡◌}
-use mathlib.Core.List.{List}
-use lib.ListN.{length, drop, take-append-drop}
-use lib.Seq.{length-take-le, take-append_seam, drop-append_seam}
+use Rattle.std.proofs.Common.{◌≤◌, ◌≡◌, List, length, drop, take-append-drop, length-take-le}
+use Rattle.std.proofs.Math.Seq.{take-append_seam, drop-append_seam}
 use Rattle.book_model.specs.declared.Book.{Book}
 use Rattle.book_model.specs.declared.Position.{Position}
 use Rattle.book_model.specs.Book.{held, with_held}

@@ -1,11 +1,5 @@
 -- One holder's position changed: the list's length, places and figures, and the store that makes the change.
-use Prim.Native.Nat.{ℕ, suc, ◌<◌}
-use native.Mathlib.Omega.{arith}
-use mathlib.Core.Path.{◌≡◌, refl, ap}
-use mathlib.Core.Bool.{Bool, true, false, cond}
-use mathlib.Core.List.{List, [], ◌∷◌, map}
-use lib.Dec.{eqb}
-use lib.ListN.{length, get_or, set}
+use Rattle.std.proofs.Common.{ℕ, suc, ◌<◌, arith, ◌≡◌, refl, ap, Bool, true, false, cond, List, [], ◌∷◌, map, eqb, length, get_or, set}
 use Rattle.book_model.specs.declared.Position.{Position}
 use Rattle.book_model.specs.Positions.{place, present, change}
 

@@ -1,9 +1,6 @@
 -- Positions over days: holders, shares and receipts stay, and the unit-days grow by the shares.
-use Prim.Native.Nat.{ℕ, ◌+◌, ◌*◌}
-use native.Mathlib.Omega.{arith}
-use native.Mathlib.Nat.{add-mul}
-use mathlib.Core.Path.{◌≡◌}
-use mathlib.Core.List.{List, [], ◌∷◌, map, map-map}
+use Rattle.std.proofs.Common.{ℕ, ◌+◌, ◌*◌, arith, add-mul, ◌≡◌, List, [], ◌∷◌, map}
+use mathlib.Core.List.{map-map}
 use Rattle.std.specs.List.{sum}
 use Rattle.general_laws.proofs.Totals.{sum-cons}
 use Rattle.book_model.specs.declared.Position.{Position}

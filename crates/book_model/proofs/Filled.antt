@@ -1,8 +1,5 @@
 -- The book with another array of positions.
-use Prim.Native.Nat.{ℕ}
-use mathlib.Core.Path.{◌≡◌}
-use mathlib.Core.List.{List, ◌++◌}
-use lib.ListN.{length, drop}
+use Rattle.std.proofs.Common.{ℕ, ◌≡◌, List, ◌++◌, length, drop}
 use Rattle.book_model.specs.declared.Book.{Book}
 use Rattle.book_model.specs.declared.Position.{Position}
 use Rattle.book_model.specs.Book.{with_held}

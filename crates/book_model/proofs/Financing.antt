@@ -1,10 +1,5 @@
 -- What an accepted financing tells of its holders and shares.
-use Prim.Native.Nat.{ℕ, ◌≤◌}
-use mathlib.Core.Path.{◌≡◌}
-use mathlib.Core.Bool.{true}
-use mathlib.Core.List.{List}
-use lib.ListN.{length}
-use borrow.Author.Tests.{leb-true, eqb-true}
+use Rattle.std.proofs.Common.{ℕ, ◌≤◌, ◌≡◌, true, List, length, leb-true, eqb-true}
 use Rattle.std.specs.List.{list_all, sum}
 use Rattle.general_laws.specs.Members.{distinct}
 use Rattle.std.proofs.lemmas.Bool.{and_parts}

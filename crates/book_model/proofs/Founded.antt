@@ -1,9 +1,5 @@
 -- The positions of an opening: one for each holder, in order, with its share and nothing else yet.
-use Prim.Native.Nat.{ℕ, zero, suc, ◌<◌}
-use native.Mathlib.Omega.{arith}
-use mathlib.Core.Path.{◌≡◌, refl, ap}
-use mathlib.Core.List.{List, [], ◌∷◌}
-use lib.ListN.{length, get_or}
+use Rattle.std.proofs.Common.{ℕ, zero, suc, ◌<◌, arith, ◌≡◌, refl, ap, List, [], ◌∷◌, length, get_or}
 use Rattle.std.specs.List.{sum}
 use Rattle.general_laws.proofs.Totals.{sum-cons}
 use Rattle.book_model.specs.Book.{fresh}

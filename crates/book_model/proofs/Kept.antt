@@ -1,8 +1,6 @@
 -- Every reached book is sound.
-use Prim.Native.Nat.{ℕ}
-use native.Mathlib.Omega.{arith}
-use mathlib.Core.Path.{◌≡◌, refl, ◌∙◌}
-use lib.ListN.{length, get_or, get_or-eq_default, get_or-map}
+use Rattle.std.proofs.Common.{ℕ, arith, ◌≡◌, refl, ◌∙◌, length, get_or}
+use Rattle.std.proofs.Math.ListN.{get_or-eq_default, get_or-map}
 use Rattle.apportionment.proofs.Callers.{nothing_for_none, weight-total}
 use Rattle.general_laws.proofs.Choice.{by_order}
 use Rattle.apportionment.specs.Apportionment.{part}

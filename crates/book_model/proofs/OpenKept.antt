@@ -1,10 +1,6 @@
 -- Open keeps a book sound.
-use Prim.Native.Nat.{ℕ}
-use native.Mathlib.Omega.{arith}
-use mathlib.Core.Path.{◌≡◌, refl}
-use mathlib.Core.List.{List, [], ◌∷◌}
-use lib.ListN.{length, drop, length-append, length-drop, length-set}
-use lib.Seq.{take-append_seam, take-suc-set}
+use Rattle.std.proofs.Common.{ℕ, arith, ◌≡◌, refl, List, [], ◌∷◌, length, drop, length-append, length-drop, length-set, take-suc-set}
+use Rattle.std.proofs.Math.Seq.{take-append_seam}
 use Rattle.book_model.specs.declared.Book.{Book}
 use Rattle.account.specs.declared.Cents.{Cents}
 use Rattle.account.specs.declared.Day.{Day}

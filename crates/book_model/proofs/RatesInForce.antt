@@ -1,11 +1,6 @@
 -- Stored rates as the account takes them: each daily number is its annual rate's, and from today on the last one holds.
-use Prim.Native.Nat.{ℕ, zero, suc, ◌-◌, ◌≤◌, ◌<◌}
-use native.Mathlib.Omega.{arith}
-use mathlib.Core.Path.{◌≡◌, refl, sym, ap, subst, fun_ext, ◌∙◌}
-use mathlib.Core.Bool.{Bool, true, false, cond}
-use mathlib.Core.List.{List, [], ◌∷◌, ◌++◌}
-use lib.Dec.{leb}
-use lib.ListN.{length, take, get_or}
+use Rattle.std.proofs.Common.{ℕ, zero, suc, ◌-◌, ◌≤◌, ◌<◌, arith, ◌≡◌, refl, sym, ap, subst, ◌∙◌, Bool, true, false, cond, List, [], ◌∷◌, ◌++◌, leb, length, take, get_or}
+use Rattle.std.proofs.Math.Path.{fun_ext}
 use Rattle.rates.proofs.Callers.{greatest, none_at_0}
 use Rattle.rates.specs.Rate.{daily_of, greatest_daily}
 use Rattle.account.specs.declared.Account.{Account}

@@ -1,14 +1,10 @@
 -- A holder's position is the one at its place; today of an open book is a date, and what its totals are.
-use Prim.Native.Nat.{ℕ, ◌+◌, ◌≤◌, ◌<◌}
-use native.Mathlib.Omega.{arith}
-use mathlib.Core.Path.{◌≡◌, refl, ap}
-use mathlib.Core.Bool.{true, false, not}
+use Rattle.std.proofs.Common.{ℕ, ◌+◌, ◌≤◌, ◌<◌, arith, ◌≡◌, refl, ap, true, false, not, get_or}
 use Rattle.calendar.proofs.Callers.{laws}
 use Rattle.general_laws.proofs.Choice.{by_order}
 use Rattle.calendar.specs.Calendar.{after, day_count, days_of_years}
 use Rattle.book_model.specs.declared.Book.{Book}
 use Rattle.book_model.specs.declared.Totals.{Totals}
-use lib.ListN.{get_or}
 use Rattle.book_model.specs.Book.{held}
 use Rattle.book_model.specs.Positions.{is_holder, place, present}
 use Rattle.book_model.specs.Outcome.{answered, no_position}

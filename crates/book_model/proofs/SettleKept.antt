@@ -1,11 +1,6 @@
 -- Settle keeps a book sound.
-use Prim.Native.Nat.{ℕ, ◌+◌}
-use native.Mathlib.Omega.{arith}
-use native.Mathlib.Numerals.{add-one}
-use mathlib.Core.Path.{◌≡◌, ◌∙◌}
-use mathlib.Core.List.{[], ◌∷◌, ◌++◌, map-append}
-use lib.ListN.{length-append, length-drop, length-set}
-use lib.Seq.{take-suc-set}
+use Rattle.std.proofs.Common.{ℕ, ◌+◌, arith, add-one, ◌≡◌, ◌∙◌, [], ◌∷◌, ◌++◌, length-append, length-drop, length-set, take-suc-set}
+use Rattle.std.proofs.lemmas.List.{map-append}
 use Rattle.std.specs.List.{sum}
 use Rattle.std.proofs.lemmas.List.Sums.{sum_by_push}
 use Rattle.book_model.specs.declared.Book.{Book}

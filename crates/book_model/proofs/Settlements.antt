@@ -1,10 +1,6 @@
 -- A settlement that is accepted, and the book after it, put together from its parts.
-use Prim.Native.Nat.{ℕ, ◌≤◌, ◌<◌}
-use mathlib.Core.Path.{◌≡◌, sym, ap, ◌∙◌}
-use mathlib.Core.Bool.{true}
-use mathlib.Core.List.{List, ◌++◌}
-use borrow.Author.Tests.{le-ltb, lt-leb}
-use lib.ListN.{drop}
+use Rattle.std.proofs.Common.{ℕ, ◌≤◌, ◌<◌, ◌≡◌, sym, ap, ◌∙◌, true, List, ◌++◌, le-ltb, drop}
+use Rattle.std.proofs.lemmas.Bool.{lt-leb}
 use Rattle.apportionment.specs.Apportionment.{part}
 use Rattle.account.specs.declared.Account.{Account}
 use Rattle.book_model.specs.declared.Book.{Book}

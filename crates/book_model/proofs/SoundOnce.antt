@@ -1,6 +1,5 @@
 -- A book is sound in one way at most, so that soundness follows from a reached book's type.
-use Prim.Native.Nat.{ℕ}
-use mathlib.Core.List.{List, [], ◌∷◌}
+use Rattle.std.proofs.Common.{ℕ, List, [], ◌∷◌}
 use Rattle.std.proofs.Math.Logic.{∥∥₁_elim}
 use Rattle.std.proofs.Props.{props}
 use Rattle.account.specs.declared.RateOrder.{RateOrder}

@@ -1,8 +1,5 @@
 -- Transfer keeps a book sound.
-use Prim.Native.Nat.{ℕ, ◌≤◌}
-use native.Mathlib.Omega.{arith}
-use mathlib.Core.Path.{◌≡◌, ◌∙◌}
-use lib.ListN.{length, length-append, length-drop}
+use Rattle.std.proofs.Common.{ℕ, ◌≤◌, arith, ◌≡◌, ◌∙◌, length, length-append, length-drop}
 use Rattle.book_model.specs.declared.Book.{Book}
 use Rattle.book_model.specs.declared.Parts.{Parts}
 use Rattle.book_model.specs.Book.{held, with_held}

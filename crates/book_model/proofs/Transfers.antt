@@ -1,12 +1,6 @@
 -- The cases of Transfer.
-use Prim.Native.Nat.{ℕ, ◌+◌, ◌-◌, ◌≤◌, ◌<◌}
-use native.Mathlib.Omega.{arith}
-use mathlib.Core.Path.{◌≡◌, refl, sym, ap, ◌∙◌}
-use mathlib.Core.Bool.{true, false, not}
-use mathlib.Core.List.{[], ◌∷◌, ◌++◌}
-use borrow.Author.Tests.{eq-eqb, ne_eqb, lt-ltb, le-ltb, le-leb, lt-leb}
-use lib.ListN.{length, get_or, set, length-append, length-set}
-use lib.Seq.{get_or-take, get_or-set_other}
+use Rattle.std.proofs.Common.{ℕ, ◌+◌, ◌-◌, ◌≤◌, ◌<◌, arith, ◌≡◌, refl, sym, ap, ◌∙◌, true, false, not, [], ◌∷◌, ◌++◌, eq-eqb, ne_eqb, lt-ltb, le-ltb, le-leb, length, get_or, set, length-append, length-set, get_or-take, get_or-set_other}
+use Rattle.std.proofs.lemmas.Bool.{lt-leb}
 use Rattle.general_laws.proofs.Fronts.{two_stored, next-stored}
 use Rattle.general_laws.proofs.Totals.{total_most_of}
 use Rattle.book_model.specs.declared.Book.{Book}
@@ -40,7 +34,7 @@ module _ {b : Book} {c i : ℕ} (cedent : Cedent b c i) where
   open-sound : OpenSound b
   open-sound = cedent.sound.when_open cedent.is_open
 
-  pub held-count : length (held b) ≡ b.count
+  held-count : length (held b) ≡ b.count
   held-count = length-held b (omega (arith, cedent.sound.room-positions, open-sound.positions-most))
 
   held_at : (k : ℕ) → k < b.count → get_or (held b) k no_position ≡ at k
@@ -72,10 +66,6 @@ module _ {b : Book} {c i : ℕ} (cedent : Cedent b c i) where
     module _ (some : n ≡ 0 → ⊥) (enough : n ≤ (at i).share.0) where
       -- the assignee is not in the book
       module _ (away : present a (held b) ≡ false) where
-        pub moved-full : 64 ≤ b.count → refuse no_parts b refusal.BookFull ≡ moved b c a n
-        unfolding moved
-        moved-full full = rw (ne_eqb n 0 some, cedent_share, le-ltb _ _ enough, away, le-leb _ _ full)
-
         assigned-last : assigned c a n (held b) ≡ set (held b) i (less n (at i)) ++ (fresh a n ∷ [])
         assigned-last =
             rw (place-change c (less n) (λ p. refl) a (held b), length-change c (less n) (held b), away, cedent_less)

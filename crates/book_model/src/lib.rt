@@ -7,29 +7,30 @@ mod called;
 mod days;
 mod positions;
 
-ghost use Rattle.std.specs.Prelude.{◌≡◌};
+ghost use Rattle.std.specs.Prelude.{◌≡◌, ◌≤◌, length};
 ghost use Rattle.book_model.specs.Book.{empty_book, fresh, held};
 ghost use Rattle.book_model.specs.Outcome.{refusal_number};
-ghost use Rattle.book_model.specs.declared.Refusal.TheVariants.{Date, Rate};
+ghost use Rattle.book_model.specs.declared.Refusal.TheVariants.{Date, Overpaid, Rate};
 
 pub use crate::called::{Called, ReachedBook};
 pub use crate::days::count_of;
 pub use crate::positions::{find, is_holder};
+use account::Unreckoned;
 pub use account::{Account, Cents, Day, RateOrder, Settlement};
 use answers::Numbered;
 use calendar::NotADate;
 use rates::OverGreatest;
 
 // A difference of money, in whole cents.
-#[derive(Clone, Copy)]
+#[derive(Clone, Copy, Default)]
 pub struct CentsChange(pub i64);
 
 // Share parts: 1,000,000 are the whole right.
-#[derive(Clone, Copy)]
+#[derive(Clone, Copy, Default, PartialEq, Eq, PartialOrd, Ord)]
 pub struct Parts(pub u64);
 
 // A holder's share today, its unit-days since the last settlement and the cash it has received. Unit-days fit 32 bits, beside the holder.
-#[derive(Clone, Copy)]
+#[derive(Clone, Copy, Default)]
 pub struct Position {
     pub holder: u32,
     pub unit_days: u32,
@@ -38,8 +39,8 @@ pub struct Position {
 }
 
 // One collection right, or none. The first day is a date; positions stand in order of first appearance. The lists are arrays with counts beside them,
-// as the papers name that form: a book holds everything by value. `opened` is a flag beside the figures: theorems read the figures of any book, and
-// those of an empty one are zeros.
+// as document 01 names that form: a book holds everything by value and is copied, which an ArrayVec isn't. `opened` is a flag beside the figures:
+// theorems read the figures of any book, and those of an empty one are zeros. Each call and reader tests it by one `if`.
 #[derive(Clone, Copy)]
 pub struct Book {
     pub opened: bool,
@@ -99,29 +100,38 @@ impl From<OverGreatest> for Refusal {
     }
 }
 
+// A reached book's figures, rates and settlements are in range, so that it can only be overpaid.
+impl From<Unreckoned> for Refusal {
+    ghost from_gives = { λ _ refusal. refusal ≡ Overpaid };
+
+    fn from(_: Unreckoned) -> Refusal {
+        Self::Overpaid
+    }
+}
+
 // The interest and the principal that a settlement took.
-#[derive(Clone, Copy)]
+#[derive(Clone, Copy, Default)]
 pub struct Taken {
     pub interest: Cents,
     pub principal: Cents,
 }
 
 // How a revised rate changed outstanding and interest due.
-#[derive(Clone, Copy)]
+#[derive(Clone, Copy, Default)]
 pub struct Revised {
     pub outstanding: CentsChange,
     pub due: CentsChange,
 }
 
 // The position at a place in book order, and how many there are.
-#[derive(Clone, Copy)]
+#[derive(Clone, Copy, Default)]
 pub struct Placed {
     pub count: usize,
     pub position: Position,
 }
 
 // Today is a date.
-#[derive(Clone, Copy)]
+#[derive(Clone, Copy, Default)]
 pub struct Totals {
     pub today: u32,
     pub account: Account,
@@ -135,8 +145,7 @@ impl Position {
         Position {
             holder,
             share,
-            unit_days: 0,
-            received: Cents(0),
+            ..Position::default()
         }
     }
 }
@@ -157,30 +166,24 @@ impl Book {
     // The greatest number of a holder.
     pub const GREATEST_HOLDER: u32 = 999999999;
 
-    // The positions in use, for readers: all of them where the count is above their number, as it is in no reached book. The calls cut the array
-    // themselves, as they change it at places.
+    // The positions in use, to be read: all of them where the count is above their number, as it is in no reached book. Advance and Settle, which change
+    // them, cut the array, since a method that lends them for it would have to say what stands behind them. Stored settlements
+    // and rates are cut where they are read.
     pub fn held(&self) -> &[Position]
-        ensures { result.now ≡ held self.now }
+        ensures value { result.now ≡ held self.now }
+        ensures few { length result.now ≤ 64 }
     {
         &self.positions[..self.count.min(Book::POSITIONS)]
     }
 
+    // No derived `Default`: tried, and of its values the check doesn't find that they are those of the empty book.
     #[tactic(auto, unfolding(crate::specs::Book::empty_book))]
     pub fn empty() -> Book
         ensures { result ≡ empty_book }
     {
-        let settlement = Settlement {
-            day: Day(0),
-            cents: Cents(0),
-        };
-        let order = RateOrder {
-            first: Day(0),
-            annual: 0,
-            daily: 0,
-        };
         let positions = [Position::fresh(0, Parts(0)); Book::POSITIONS];
-        let settlements = [settlement; Book::SETTLEMENTS];
-        let rates = [order; Book::RATES];
+        let settlements = [Settlement::default(); Book::SETTLEMENTS];
+        let rates = [RateOrder::default(); Book::RATES];
         Book {
             opened: false,
             first: 0,

@@ -1,7 +1,7 @@
 // Open (document 01): a right is recognised, with its holders and their shares.
 #![tactic(auto)]
 
-ghost use Rattle.std.specs.Prelude.{◌≡◌, ◌≤◌, ◌&&◌, ◌++◌, length, drop, sum, eqb, leb};
+ghost use Rattle.std.specs.Prelude.{◌≡◌, ◌≤◌, min, ◌&&◌, ◌++◌, length, drop, sum, eqb, leb};
 ghost use Rattle.std.specs.List.{list_all};
 ghost use Rattle.general_laws.specs.Members.{distinct};
 ghost use Rattle.book_model.specs.Called.{stated};
@@ -13,7 +13,7 @@ use book_model::{
     Account, Book, Called, Cents, Day, Parts, Position, RateOrder, ReachedBook, Refusal, is_holder,
 };
 
-// What Open is given. Holders and shares are two lists; the shares stand in the holders' order.
+// What Open is given. Holders and shares are two lists, the form that document 01 names; the shares stand in the holders' order.
 #[derive(Clone, Copy)]
 pub struct Opening<'a> {
     pub first: u32,
@@ -24,28 +24,24 @@ pub struct Opening<'a> {
     pub shares: &'a [u32],
 }
 
-// The longest term, in days.
-const LONGEST_TERM: u32 = Account::DAYS.0;
-
 // The latest date that a right begins on.
 const LAST_FIRST_DAY: u32 = 20991231;
 
-// The most cents that a right is recognised with.
-const GREATEST_RECOGNISED: u64 = Account::CENTS.0;
-
+// The longest term is the most days that an account is worked out over.
 fn is_term(first: u32, term: Day) -> bool
     ensures { result ≡ is_term first term.0 }
 {
-    (1..=LONGEST_TERM).contains(&term.0) && first <= LAST_FIRST_DAY
+    (Day(1)..=Account::DAYS).contains(&term) && first <= LAST_FIRST_DAY
 }
 
+// The most that a right is recognised with is the most of an account's figures.
 fn is_recognised(cents: Cents) -> bool
     ensures { result ≡ is_recognised cents.0 }
 {
-    (1..=GREATEST_RECOGNISED).contains(&cents.0)
+    (Cents(1)..=Account::CENTS).contains(&cents)
 }
 
-// A chain or a recursion stands in a function of its own, as no proof of it was found inside a condition: so two chains of one shape are two functions.
+// A chain or a recursion stands in a function of its own, as no proof of it was found inside a condition.
 fn all_holders(holders: &[u32]) -> bool
     ensures { result ≡ list_all is_holder holders.now }
 {
@@ -61,17 +57,14 @@ fn all_distinct(holders: &[u32]) -> bool
     }
 }
 
-fn all_shares(shares: &[u32]) -> bool
-    ensures { result ≡ list_all is_share shares.now }
-{
-    shares.iter().all(|&share| share != 0)
-}
-
+// The total of the shares, or the greatest number where it is above that. As `apportionment` has it of 64-bit weights: one function over both kinds of
+// numbers would be generic for these two callers.
 fn total_of(shares: &[u32]) -> u64
-    requires { length shares.now ≤ 64 }
-    ensures { result ≡ sum shares.now }
+    ensures { result ≡ min (sum shares.now) 18446744073709551615 }
 {
-    shares.iter().map(|&share| u64::from(share)).sum()
+    shares
+        .iter()
+        .fold(0u64, |total, &share| total.saturating_add(share.into()))
 }
 
 fn are_holders(holders: &[u32]) -> bool
@@ -80,11 +73,11 @@ fn are_holders(holders: &[u32]) -> bool
     (1..=Book::POSITIONS).contains(&holders.len()) && all_holders(holders) && all_distinct(holders)
 }
 
+#[tactic(auto, using(crate::proofs::Shares::none_0))]
 fn are_shares(shares: &[u32]) -> bool
-    requires { length shares.now ≤ 64 }
     ensures { result ≡ list_all is_share shares.now && eqb (sum shares.now) 1000000 }
 {
-    all_shares(shares) && total_of(shares) == Book::PARTS
+    !shares.contains(&0) && total_of(shares) == Book::PARTS
 }
 
 #[tactic(auto, unfolding(book_model::specs::Open::is_financing))]
@@ -147,7 +140,7 @@ pub fn open_any_book(book: &mut Book, opening: Opening) -> Result<(), Refusal>
     Ok(())
 }
 
-// The same on a book that the caller keeps.
+// The same on a reached book that the caller keeps.
 pub fn open_book_in_place(book: &mut ReachedBook, opening: Opening) -> Result<(), Refusal>
     ensures { let o = opening.entry in
         outcome nothing result book.new.book ≡ opened book.old.book o.first o.term o.annual o.cents o.holders.now o.shares.now }

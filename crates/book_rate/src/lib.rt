@@ -12,14 +12,14 @@ use book_model::{
     Account, Book, Called, CentsChange, Day, RateOrder, ReachedBook, Refusal, Revised, count_of,
 };
 
-// How many rates start before a day.
+// How many rates start before a day. Counted, 16 at most: what `partition_point` says would depend on their order.
 fn count_before(rates: &[RateOrder], day: Day) -> usize
     ensures { result ≡ length (filter (λ o. ltb o.first.0 day.0) rates.now) }
 {
     rates.iter().filter(|order| order.first < day).count()
 }
 
-// After minus before.
+// After minus before, of accounts that fit: a type that says it would be made for this one difference.
 fn changes(before: Account, after: Account) -> Revised
     requires fits_before { Fits before }
     requires fits_after { Fits after }
@@ -59,15 +59,12 @@ fn rate_in(book: &mut Book, date: u32, annual: u64) -> Result<Revised, Refusal>
         annual,
         daily,
     };
-    // Overpaid: a reached book's figures, rates and settlements are in range.
-    let Ok(after) = account::replay(
+    let after = account::replay(
         book.recognised,
         &rates[..place + 1],
         &book.settlements[..book.settled],
         book.today,
-    ) else {
-        return Err(Refusal::Overpaid);
-    };
+    )?;
     let answer = changes(book.account, after);
     book.account = after;
     book.rates = rates;
@@ -75,7 +72,7 @@ fn rate_in(book: &mut Book, date: u32, annual: u64) -> Result<Revised, Refusal>
     Ok(answer)
 }
 
-// The same on a book that the caller keeps.
+// The same on a reached book that the caller keeps.
 pub fn rate_in_place(book: &mut ReachedBook, date: u32, annual: u64) -> Result<Revised, Refusal>
     ensures { outcome no_changes result book.new.book ≡ rated book.old.book date annual }
 {

@@ -33,12 +33,10 @@ pub fn position_at(book: &ReachedBook, place: usize) -> Result<Placed, Refusal>
         return Err(Refusal::Unopened);
     }
     let held = book.held();
-    if held.len() <= place {
-        return Err(Refusal::Holder);
-    }
+    let position = *held.get(place).ok_or(Refusal::Holder)?;
     Ok(Placed {
         count: held.len(),
-        position: held[place],
+        position,
     })
 }
 

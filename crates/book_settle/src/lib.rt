@@ -3,16 +3,18 @@
 
 ghost use Rattle.std.specs.Prelude.{◌≡◌, ℕ, ◌+◌, ◌≤◌, length, take, get_or};
 ghost use Rattle.account.specs.Schedule.{last_day};
+ghost use Rattle.book_model.specs.Book.{held};
 ghost use Rattle.book_model.specs.Called.{stated};
 ghost use Rattle.book_model.specs.Invariant.{Sound};
 ghost use Rattle.book_model.specs.Outcome.{nothing_taken, no_position, outcome};
 ghost use Rattle.book_model.specs.Positions.{paid_from, unit_days_column};
 ghost use Rattle.book_model.specs.Settle.{settled};
 
+use arrayvec::ArrayVec;
 use book_model::{Book, Called, Cents, Day, Position, ReachedBook, Refusal, Settlement, Taken};
 
 // The most cents of one settlement.
-const GREATEST_PAYMENT: u64 = apportionment::AMOUNT;
+const GREATEST_PAYMENT: Cents = Cents(apportionment::AMOUNT);
 
 // The day of the last settlement, or day 0 where nothing was settled.
 #[tactic(auto, using(crate::proofs::LastDay::last_is))]
@@ -25,19 +27,17 @@ fn last_settled(settlements: &[Settlement]) -> Day
 }
 
 // The unit-days of positions, by which a payment is split.
-fn weights_of(held: &[Position]) -> [u64; Book::POSITIONS]
-    requires { length held.now ≤ 64 }
-    ensures { take (length held.now) result ≡ unit_days_column held.now }
+fn weights_of(book: &Book) -> ArrayVec<u64, { Book::POSITIONS }>
+    ensures { result.items ≡ unit_days_column (held book.now) }
 {
-    let mut weights = [0u64; Book::POSITIONS];
-    // By index: no proof was found of what a zip over iter_mut leaves.
-    for (place, position) in held.iter().enumerate() {
-        weights[place] = u64::from(position.unit_days);
+    let mut weights = ArrayVec::new();
+    for position in book.held() {
+        weights.push(u64::from(position.unit_days));
     }
     weights
 }
 
-// Each position is paid its portion, and its unit-days become 0.
+// Each of at most 64 positions is paid its portion, and its unit-days become 0.
 fn pay_out(held: &mut [Position], portions: &[u64; Book::POSITIONS])
     requires places { length held.old ≤ 64 }
     requires receipts { (k : ℕ) → (get_or held.old k no_position).received.0 ≤ 24000000000000 }
@@ -61,7 +61,7 @@ fn settle_in(book: &mut Book, cents: Cents) -> Result<Taken, Refusal>
     if !book.opened {
         return Err(Refusal::Unopened);
     }
-    if GREATEST_PAYMENT < cents.0 {
+    if GREATEST_PAYMENT < cents {
         return Err(Refusal::Amount);
     }
     if Book::SETTLEMENTS <= book.settled {
@@ -71,16 +71,13 @@ fn settle_in(book: &mut Book, cents: Cents) -> Result<Taken, Refusal>
     if book.today <= last {
         return Err(Refusal::NoDayHeld);
     }
-    // Overpaid: a reached book's figures are in range.
-    let Ok(after) = account::pay(book.account, cents) else {
-        return Err(Refusal::Overpaid);
-    };
+    let after = account::pay(book.account, cents)?;
     let interest = account::interest_of(cents, book.account.due);
     let principal = Cents(cents.0 - interest.0);
     book.account = after;
+    let weights = weights_of(book);
     let held = &mut book.positions[..book.count];
-    let weights = weights_of(held);
-    let portions = apportionment::apportion(cents.0, &weights[..held.len()]).unwrap();
+    let portions = apportionment::apportion(cents.0, &weights).unwrap();
     pay_out(held, &portions);
     book.settlements[book.settled] = Settlement {
         day: book.today,
@@ -93,7 +90,7 @@ fn settle_in(book: &mut Book, cents: Cents) -> Result<Taken, Refusal>
     })
 }
 
-// The same on a book that the caller keeps.
+// The same on a reached book that the caller keeps.
 pub fn settle_in_place(book: &mut ReachedBook, cents: Cents) -> Result<Taken, Refusal>
     ensures { outcome nothing_taken result book.new.book ≡ settled book.old.book cents }
 {

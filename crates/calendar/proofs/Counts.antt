@@ -1,9 +1,6 @@
 -- Dates and day counts are inverse to each other and in the same order, and what is within the range is a date.
-use mathlib.Core.Path.{◌≡◌, refl, sym, ◌∙◌, ap}
-use mathlib.Core.Bool.{true}
-use Prim.Native.Nat.{ℕ, zero, suc, ◌+◌, ◌<◌, ◌≤◌}
-use native.Mathlib.Nat.{le_of_suc-le, le_of_suc-le-suc}
-use native.Mathlib.Omega.{arith}
+use Rattle.std.proofs.Common.{◌≡◌, refl, sym, ◌∙◌, ap, true, ℕ, zero, suc, ◌+◌, ◌<◌, ◌≤◌, le_of_suc-le-suc, arith}
+use Rattle.std.proofs.Math.Nat.{le_of_suc-le}
 use Rattle.calendar.specs.Calendar.{first_date, last_date, is_date, after, days_of_years, day_count}
 use Rattle.calendar.proofs.Parts.{parts_of, day-most, next_is_date}
 use Rattle.calendar.proofs.Walk.{date_of_count, after-sum}

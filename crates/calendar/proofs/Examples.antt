@@ -1,5 +1,5 @@
 -- The worked examples, by computation.
-use mathlib.Core.Path.{refl}
+use Rattle.std.proofs.Common.{refl}
 use Rattle.calendar.specs.Calendar.{after, days_of_years, day_count}
 use Rattle.calendar.specs.Answers.{sum_of}
 use Rattle.calendar.specs.Examples.{Examples}

@@ -1,12 +1,5 @@
 -- The lengths of months and years.
-use mathlib.Core.Path.{◌≡◌, refl, ap}
-use mathlib.Core.Bool.{Bool, true, false}
-use Prim.Native.Nat.{ℕ, suc, ◌+◌, ◌-◌, ◌*◌, ◌/◌, ◌<◌, ◌≤◌}
-use native.Mathlib.Numerals.{add-one}
-use native.Mathlib.Omega.{arith}
-use borrow.Author.Tests.{leb-true, eqb-true}
-use lib.Dec.{leb, eqb}
-use lib.ListN.{get_or, take}
+use Rattle.std.proofs.Common.{◌≡◌, refl, ap, Bool, true, false, ℕ, suc, ◌+◌, ◌-◌, ◌*◌, ◌/◌, ◌<◌, ◌≤◌, add-one, arith, leb-true, eqb-true, leb, eqb, get_or, take}
 use Rattle.std.specs.List.{sum}
 use Rattle.general_laws.proofs.Every.{every_below, at_each}
 use Rattle.calendar.specs.Calendar.{is_leap, month_lengths, days_in, days_of_years, days_of_months}

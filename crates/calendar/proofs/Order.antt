@@ -1,7 +1,5 @@
 -- Day after day the number of the date grows.
-use mathlib.Core.Path.{◌≡◌}
-use Prim.Native.Nat.{ℕ, zero, suc, ◌<◌, ◌≤◌}
-use native.Mathlib.Omega.{arith}
+use Rattle.std.proofs.Common.{◌≡◌, ℕ, zero, suc, ◌<◌, ◌≤◌, arith}
 use Rattle.calendar.specs.Calendar.{year_of, month_of, day_of, next, after}
 use Rattle.calendar.proofs.Parts.{of_following}
 

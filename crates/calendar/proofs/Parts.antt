@@ -1,11 +1,6 @@
 -- A number's year, month and day, and when they make a date.
-use mathlib.Core.Path.{◌≡◌, refl, subst}
-use mathlib.Core.Bool.{true}
-use Prim.Native.Nat.{ℕ, ◌+◌, ◌≤◌, ◌<◌}
-use native.Mathlib.Omega.{arith}
+use Rattle.std.proofs.Common.{◌≡◌, refl, subst, true, ℕ, ◌+◌, ◌≤◌, ◌<◌, arith, ltb-true, ltb}
 use Rattle.std.proofs.lemmas.Bool.Decides.{nat_tests}
-use borrow.Author.Tests.{ltb-true}
-use lib.Dec.{ltb}
 use Rattle.general_laws.proofs.Choice.{choice}
 use Rattle.calendar.specs.Calendar.{last_date, year_of, month_of, day_of, ymd, days_in, is_date, following, next}
 use Rattle.calendar.proofs.Lengths.{month_least, month-most}

@@ -1,12 +1,6 @@
 -- Where day after day leads from the first date: over the days of a month, the months of a year, and the years.
-use mathlib.Core.Path.{◌≡◌, refl, ◌∙◌, sym, ap, subst}
-use mathlib.Core.Bool.{true, cond}
-use Prim.Native.Nat.{ℕ, zero, suc, ◌+◌, ◌-◌, ◌<◌, ◌≤◌}
-use native.Mathlib.Nat.{add-zero, add-suc, le_of_suc-le}
-use native.Mathlib.Numerals.{add-one}
-use native.Mathlib.Omega.{arith}
-use borrow.Author.Tests.{lt-ltb, le-ltb}
-use lib.Dec.{ltb}
+use Rattle.std.proofs.Common.{◌≡◌, refl, ◌∙◌, sym, ap, subst, true, cond, ℕ, zero, suc, ◌+◌, ◌-◌, ◌<◌, ◌≤◌, add-zero, add-suc, add-one, arith, lt-ltb, le-ltb, ltb}
+use Rattle.std.proofs.Math.Nat.{le_of_suc-le}
 use Rattle.calendar.specs.Calendar.{first_date, year_of, month_of, day_of, ymd, days_in, is_date, next, after, days_of_years, days_of_months, day_count}
 use Rattle.calendar.proofs.Lengths.{month_least, month-most, months-suc, years_more}
 use Rattle.calendar.proofs.Parts.{next-ymd, parts_of}

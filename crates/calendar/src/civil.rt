@@ -14,7 +14,7 @@ pub fn is_leap(year: u32) -> bool
     year % 4 == 0 && (year % 100 != 0 || year % 400 == 0)
 }
 
-// The days of a year before one of its months; those of the whole year before the month 13.
+// The days of a year before one of its months; those of the whole year before the month 13. Months are numbers, as the 13th is asked for too.
 pub fn days_before(year: u32, month: u32) -> u32
     requires { (1 ≤ month) × (month ≤ 13) }
     ensures { result ≡ days_of_months year (month - 1) }

@@ -1,4 +1,5 @@
-// Prints a digest of every number of the years 1999 to 2200, and then the answers to the cases of the input.
+// Prints for each year from 1999 to 2200 how many of its numbers are dates, and a digest of all numbers so far; then the answers to the cases of the
+// input.
 #![tactic(auto)]
 
 ghost use Rattle.std.specs.Prelude.{◌≤◌};

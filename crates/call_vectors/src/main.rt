@@ -1,8 +1,9 @@
 // Runs the calls of the input on a book, and prints the answer to each: its number, and its values.
 #![tactic(auto)]
 
-use answers::{Numbered, number_of};
-use book::{Cents, Day, Opening, Parts, Placed, ReachedBook};
+use answers::number_of;
+use arrayvec::ArrayVec;
+use book::{Cents, Day, Opening, Parts, Placed, ReachedBook, Revised, Taken};
 use book_cases::{put_position, put_totals};
 use cases::Cases;
 use std::io;
@@ -13,120 +14,122 @@ const INPUT: usize = 65536;
 // The most numbers that a list of the input has.
 const LISTED: usize = 70;
 
-// The numbers of a list: it says first how many they are.
-fn read_list<'a>(cases: &mut Cases, numbers: &'a mut [u32; LISTED]) -> &'a [u32] {
-    let count = cases.count(LISTED);
-    for number in &mut numbers[..count] {
-        *number = cases.number_u32();
+// The book, and the cases of the input that are still to come.
+#[derive(Drop)]
+struct Calls<'a> {
+    book: ReachedBook,
+    cases: Cases<'a>,
+}
+
+impl<'a> Calls<'a> {
+    // The numbers of a list: it says first how many they are.
+    fn list(&mut self) -> ArrayVec<u32, LISTED> {
+        let mut numbers = ArrayVec::new();
+        for _ in 0..self.cases.count(LISTED) {
+            let _ = numbers.try_push(self.cases.number_u32());
+        }
+        numbers
     }
-    &numbers[..count]
-}
 
-fn open_book(rt: &impl Print, book: &mut ReachedBook, cases: &mut Cases) {
-    let first = cases.number_u32();
-    let term = Day(cases.number_u32());
-    let annual = cases.number();
-    let cents = Cents(cases.number());
-    let mut holders = [0u32; LISTED];
-    let holders = read_list(cases, &mut holders);
-    let mut shares = [0u32; LISTED];
-    let shares = read_list(cases, &mut shares);
-    let opening = Opening {
-        first,
-        term,
-        annual,
-        cents,
-        holders,
-        shares,
-    };
-    let opened = book::open_book_in_place(book, opening);
-    let _ = println!(rt; "{}", number_of(opened));
-}
-
-fn advance(rt: &impl Print, book: &mut ReachedBook, cases: &mut Cases) {
-    let date = cases.number_u32();
-    let advanced = book::advance_in_place(book, date);
-    let days = advanced.map_or(0, |days| days.0);
-    let _ = println!(rt; "{} {days}", number_of(advanced));
-}
-
-fn transfer(rt: &impl Print, book: &mut ReachedBook, cases: &mut Cases) {
-    let cedent = cases.number_u32();
-    let assignee = cases.number_u32();
-    let parts = Parts(cases.number());
-    let transferred = book::transfer_in_place(book, cedent, assignee, parts);
-    let left = transferred.map_or(0, |parts| parts.0);
-    let _ = println!(rt; "{} {left}", number_of(transferred));
-}
-
-fn settle(rt: &impl Print, book: &mut ReachedBook, cases: &mut Cases) {
-    let cents = Cents(cases.number());
-    let settled = book::settle_in_place(book, cents);
-    let (interest, principal) = settled.map_or(
-        (0, 0),
-        |taken| (taken.interest.0, taken.principal.0),
-    );
-    let _ = println!(rt; "{} {interest} {principal}", number_of(settled));
-}
-
-fn rate(rt: &impl Print, book: &mut ReachedBook, cases: &mut Cases) {
-    let date = cases.number_u32();
-    let annual = cases.number();
-    let rated = book::rate_in_place(book, date, annual);
-    let (outstanding, due) = rated.map_or((0, 0), |revised| (revised.outstanding.0, revised.due.0));
-    let _ = println!(rt; "{} {outstanding} {due}", number_of(rated));
-}
-
-// Reads the position of a holder.
-fn read_holder(rt: &impl Print, book: &ReachedBook, holder: u32) {
-    match book::position_of(book, holder) {
-        Ok(position) => {
-            let _ = print!(rt; "0 ");
-            put_position(rt, position);
-        }
-        Err(refusal) => {
-            let _ = println!(rt; "{} 0 0 0 0", refusal.number());
-        }
+    fn open_book(&mut self, rt: &impl Print) {
+        let first = self.cases.number_u32();
+        let term = Day(self.cases.number_u32());
+        let annual = self.cases.number();
+        let cents = Cents(self.cases.number());
+        let holders = self.list();
+        let shares = self.list();
+        let opening = Opening {
+            first,
+            term,
+            annual,
+            cents,
+            holders: &holders,
+            shares: &shares,
+        };
+        let opened = book::open_book_in_place(&mut self.book, opening);
+        let _ = println!(rt; "{}", number_of(opened));
     }
-}
 
-// Reads the position at a place.
-fn read_place(rt: &impl Print, book: &ReachedBook, place: usize) {
-    match book::position_at(book, place) {
-        Ok(Placed { count, position }) => {
-            let _ = print!(rt; "0 {count} ");
-            put_position(rt, position);
-        }
-        Err(refusal) => {
-            let _ = println!(rt; "{} 0 0 0 0 0", refusal.number());
-        }
+    fn advance(&mut self, rt: &impl Print) {
+        let date = self.cases.number_u32();
+        let advanced = book::advance_in_place(&mut self.book, date);
+        let days = advanced.unwrap_or_default().0;
+        let _ = println!(rt; "{} {days}", number_of(advanced));
     }
-}
 
-// The next call, by the number that the input has for it: told apart once, here, so no enum stands between.
-fn call(rt: &impl Print, book: &mut ReachedBook, cases: &mut Cases) {
-    match cases.number() {
-        0 => {
-            let _ = println!(rt; "0");
-            *book = ReachedBook::empty();
+    fn transfer(&mut self, rt: &impl Print) {
+        let cedent = self.cases.number_u32();
+        let assignee = self.cases.number_u32();
+        let parts = Parts(self.cases.number());
+        let transferred = book::transfer_in_place(&mut self.book, cedent, assignee, parts);
+        let left = transferred.unwrap_or_default().0;
+        let _ = println!(rt; "{} {left}", number_of(transferred));
+    }
+
+    fn settle(&mut self, rt: &impl Print) {
+        let cents = Cents(self.cases.number());
+        let settled = book::settle_in_place(&mut self.book, cents);
+        let Taken {
+            interest,
+            principal,
+        } = settled.unwrap_or_default();
+        let _ = println!(rt; "{} {} {}", number_of(settled), interest.0, principal.0);
+    }
+
+    fn rate(&mut self, rt: &impl Print) {
+        let date = self.cases.number_u32();
+        let annual = self.cases.number();
+        let rated = book::rate_in_place(&mut self.book, date, annual);
+        let Revised { outstanding, due } = rated.unwrap_or_default();
+        let _ = println!(rt; "{} {} {}", number_of(rated), outstanding.0, due.0);
+    }
+
+    // The position of a holder.
+    fn position_of(&mut self, rt: &impl Print) {
+        let position = book::position_of(&self.book, self.cases.number_u32());
+        let _ = print!(rt; "{} ", number_of(position));
+        put_position(rt, position.unwrap_or_default());
+    }
+
+    // How many positions there are, and the one at a place.
+    fn position_at(&mut self, rt: &impl Print) {
+        let placed = book::position_at(&self.book, self.cases.number() as usize);
+        let Placed { count, position } = placed.unwrap_or_default();
+        let _ = print!(rt; "{} {count} ", number_of(placed));
+        put_position(rt, position);
+    }
+
+    fn begin_anew(&mut self, rt: &impl Print) {
+        self.book = ReachedBook::empty();
+        let _ = println!(rt; "0");
+    }
+
+    // The next call, by the number that the input has for it: told apart once, here, so no enum stands between. Numbers that no other call has are for
+    // the totals.
+    fn call(&mut self, rt: &impl Print) {
+        match self.cases.number() {
+            0 => self.begin_anew(rt),
+            1 => self.open_book(rt),
+            2 => self.advance(rt),
+            3 => self.transfer(rt),
+            4 => self.settle(rt),
+            5 => self.position_of(rt),
+            6 => self.position_at(rt),
+            8 => self.rate(rt),
+            _ => put_totals(rt, &self.book),
         }
-        1 => open_book(rt, book, cases),
-        2 => advance(rt, book, cases),
-        3 => transfer(rt, book, cases),
-        4 => settle(rt, book, cases),
-        5 => read_holder(rt, book, cases.number_u32()),
-        6 => read_place(rt, book, cases.number() as usize),
-        8 => rate(rt, book, cases),
-        _ => put_totals(rt, book),
     }
 }
 
 fn main(rt: HostRuntime) -> io::Result<()> {
     let mut buffer = [0u8; INPUT];
-    let mut cases = Cases::read(&mut rt.stdin(), &mut buffer)?;
-    let mut book = ReachedBook::empty();
-    for _ in 0..cases.number() {
-        call(&rt, &mut book, &mut cases);
+    let cases = Cases::read(&mut rt.stdin(), &mut buffer)?;
+    let mut calls = Calls {
+        book: ReachedBook::empty(),
+        cases,
+    };
+    for _ in 0..calls.cases.number() {
+        calls.call(&rt);
     }
     Ok(())
 }

@@ -72,13 +72,7 @@ pub extern "C" fn taborumbra_read_line(
     ensures third_after { third.new ≡ (line_of line.now).1.third }
 {
     let read = line::read_line(line);
-    let f = read.unwrap_or(Fields {
-        letter: 0,
-        date: 0,
-        first: 0,
-        second: 0,
-        third: 0,
-    });
+    let f = read.unwrap_or_default();
     *letter = f.letter;
     *date = f.date;
     *first = f.first;

@@ -1,10 +1,5 @@
 -- What one byte more does to a filled buffer.
-use mathlib.Core.Path.{◌≡◌}
-use mathlib.Core.List.{List}
-use Prim.Native.Nat.{ℕ, ◌+◌, ◌%◌, ◌<◌}
-use native.Mathlib.Numerals.{add-one}
-use lib.ListN.{length, take, set}
-use lib.Seq.{take-suc-set}
+use Rattle.std.proofs.Common.{◌≡◌, List, ℕ, ◌+◌, ◌%◌, ◌<◌, add-one, length, take, set, take-suc-set}
 use Rattle.cases.specs.Filled.{filled}
 
 pub fills : (b : List ℕ) (i : ℕ) → i < length b → take i b ≡ filled i → take (i + 1) (set b i (35 + i % 90)) ≡ filled (i + 1)

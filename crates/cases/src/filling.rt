@@ -1,4 +1,4 @@
-// A buffer with other bytes at neighbouring places.
+// A buffer filled with bytes that differ from their neighbours.
 ghost use Rattle.std.specs.Prelude.{◌≡◌, length};
 ghost use Rattle.cases.specs.Filled.{filled};
 

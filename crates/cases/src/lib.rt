@@ -1,4 +1,5 @@
-// What the programs that run test vectors share: numbers and bytes read from their input, digests, and a filled buffer.
+// What the programs that run test vectors share: numbers and bytes read from their input, digests, and a filled buffer. What their mains have alike, a
+// buffer, a reader and a `for` over its cases, would be no plainer as a function over a closure.
 #![tactic(auto)]
 
 mod digests;

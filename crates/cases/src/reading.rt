@@ -8,7 +8,8 @@ use input::read_full;
 use std::io;
 use std::io::Read;
 
-// A reader of the cases in a text, and the position where it stands.
+// A reader of the cases in a text, and the position where it stands. The text stays whole beside the position, as `often` asks how far its first number
+// goes: so each method says that it does.
 #[derive(Drop)]
 pub struct Cases<'a> {
     pub text: &'a [u8],
@@ -33,7 +34,7 @@ fn digits(text: &[u8]) -> usize
     text.iter().take_while(|byte| byte.is_ascii_digit()).count()
 }
 
-// The number that a text's bytes write, if each is a digit: the greatest u64 where it is larger (std's parse refuses such a number).
+// The number that a text's bytes write, if each is a digit: 0 for none, the greatest u64 where it is larger. std's parse is of a `str`, and refuses both.
 fn decimal(digits: &[u8]) -> u64
     ensures { result ≡ min (fold (λ v b. v * 10 + (b - 48)) 0 digits.now) greatest }
 {

@@ -1,8 +1,6 @@
 -- An accepted Advance keeps the agreement with the tally.
-use Prim.Native.Nat.{ℕ, suc, ◌+◌, ◌*◌}
-use native.Mathlib.Omega.{arith}
-use mathlib.Core.Path.{◌≡◌, sym, ap, subst, ◌∙◌}
-use mathlib.Core.List.{map, map-map}
+use Rattle.std.proofs.Common.{ℕ, suc, ◌+◌, ◌*◌, arith, ◌≡◌, sym, ap, subst, ◌∙◌, map}
+use mathlib.Core.List.{map-map}
 use Rattle.general_laws.proofs.Members.{map_same}
 use Rattle.general_laws.proofs.Sums.{sum_further}
 use Rattle.book_model.specs.declared.Book.{Book}

@@ -1,10 +1,7 @@
 -- A book and a tally agree, as far as the holders go: what holds of both after every call.
-use Prim.Native.Nat.{ℕ, zero, suc, ◌≤◌, ◌<◌}
-use native.Mathlib.Omega.{arith}
-use mathlib.Core.Path.{◌≡◌, refl, ap, ◌∙◌}
-use mathlib.Core.Bool.{true, false}
-use mathlib.Core.List.{map, map-map}
-use mathlib.Core.Option.{none, some}
+use Rattle.std.proofs.Common.{ℕ, zero, suc, ◌≤◌, ◌<◌, arith, ◌≡◌, refl, ap, ◌∙◌, true, false, map}
+use Rattle.std.proofs.Math.Option.{none, some}
+use mathlib.Core.List.{map-map}
 use Rattle.general_laws.specs.Members.{distinct, among}
 use Rattle.std.specs.List.{sum}
 use Rattle.book_model.specs.declared.Book.{Book}

@@ -1,15 +1,8 @@
 -- Positions that stand for a list of distinct holders: what the book's changes make of them.
-use Prim.Native.Nat.{ℕ, suc, ◌+◌}
-use native.Mathlib.Omega.{arith}
-use native.Mathlib.Nat.{add-zero, zero-add}
-use mathlib.Core.Path.{◌≡◌, refl, sym, ap, ap₂, ◌∙◌}
-use mathlib.Core.Bool.{Bool, true, false, cond, ◌||◌}
-use mathlib.Core.List.{List, [], ◌∷◌, map}
-use borrow.Author.Tests.{eqb-true, eqb-false, eq-eqb, ne_eqb, lt-ltb, le-ltb}
-use lib.Dec.{eqb, ltb}
-use lib.ListN.{length, length-map}
+use Rattle.std.proofs.Common.{ℕ, suc, ◌+◌, arith, add-zero, zero-add, ◌≡◌, refl, sym, ap, ap₂, ◌∙◌, Bool, true, false, cond, ◌||◌, List, [], ◌∷◌, map, eqb-true, eq-eqb, ne_eqb, lt-ltb, le-ltb, eqb, ltb, length}
+use Rattle.std.proofs.lemmas.List.{length-map}
 use Rattle.general_laws.specs.Members.{distinct, among}
-use Rattle.std.proofs.lemmas.Bool.{or_parts}
+use Rattle.std.proofs.lemmas.Bool.{or_parts, eqb-false}
 use Rattle.general_laws.proofs.Members.{member_other, first-apart, map_same}
 use Rattle.book_model.specs.declared.Position.{Position}
 use Rattle.book_model.specs.Book.{fresh}

@@ -1,8 +1,5 @@
 -- Each call, refused ones included, keeps the agreement with the tally, and adds its accepted cents to the receipts.
-use Prim.Native.Nat.{◌+◌}
-use native.Mathlib.Omega.{arith}
-use mathlib.Core.Path.{◌≡◌, ap, ◌∙◌}
-use mathlib.Core.Bool.{cond}
+use Rattle.std.proofs.Common.{◌+◌, arith, ◌≡◌, ap, ◌∙◌, cond}
 use Rattle.std.specs.List.{sum}
 use Rattle.book_model.specs.declared.Book.{Book}
 use Rattle.book_model.specs.Book.{held}

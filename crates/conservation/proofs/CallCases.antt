@@ -1,9 +1,5 @@
 -- One lemma for every call: it is refused and leaves the book, or its conditions hold and the book changes.
-use Prim.Native.Nat.{ℕ}
-use mathlib.Core.Path.{◌≡◌}
-use mathlib.Core.Bool.{Bool, true, false}
-use borrow.Author.Tests.{ne_eqb}
-use lib.Dec.{eqb}
+use Rattle.std.proofs.Common.{ℕ, ◌≡◌, Bool, true, false, ne_eqb, eqb}
 use Rattle.book_model.specs.declared.Book.{Book}
 use Rattle.book_model.specs.declared.Refusal.{Refusal}
 use Rattle.book_model.specs.Advance.{days_passed}

@@ -1,9 +1,5 @@
 -- Demand 3, by induction on the list of calls.
-use Prim.Native.Nat.{◌+◌}
-use native.Mathlib.Omega.{arith}
-use mathlib.Core.Path.{◌≡◌}
-use mathlib.Core.Bool.{cond}
-use mathlib.Core.List.{List, [], ◌∷◌}
+use Rattle.std.proofs.Common.{◌+◌, arith, ◌≡◌, cond, List, [], ◌∷◌}
 use Rattle.std.specs.List.{sum}
 use Rattle.book_model.specs.declared.Book.{Book}
 use Rattle.book_model.specs.Book.{held}

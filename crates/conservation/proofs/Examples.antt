@@ -1,7 +1,5 @@
 -- The checked examples and the edges, by computation; daily rates by their two bounds.
-use mathlib.Core.Path.{◌≡◌, refl, sym, ap, ◌∙◌}
-use mathlib.Core.List.{[], ◌∷◌}
-use lib.IntN.{pos, neg_ℤ}
+use Rattle.std.proofs.Common.{◌≡◌, refl, sym, ap, ◌∙◌, [], ◌∷◌, pos, neg_ℤ}
 use Rattle.general_laws.specs.Sums.{sum_below, count_below}
 use Rattle.rates.proofs.Callers.{none_at_0, only}
 use Rattle.calendar.specs.Calendar.{after, days_of_years, day_count}

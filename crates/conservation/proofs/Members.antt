@@ -1,12 +1,6 @@
 -- Lists of holders in order of appearance: at which place each stands, and one who is added last.
-use Prim.Native.Nat.{ℕ, suc, ◌<◌}
-use native.Mathlib.Omega.{arith}
-use mathlib.Core.Path.{◌≡◌, refl, ap}
-use mathlib.Core.Bool.{Bool, true, false, cond, ◌||◌}
-use mathlib.Core.List.{List, [], ◌∷◌, ◌++◌, map, map-append}
-use borrow.Author.Tests.{eq-eqb}
-use lib.Dec.{eqb}
-use lib.ListN.{length}
+use Rattle.std.proofs.Common.{ℕ, suc, ◌<◌, arith, ◌≡◌, refl, ap, Bool, true, false, cond, ◌||◌, List, [], ◌∷◌, ◌++◌, map, eq-eqb, eqb, length}
+use Rattle.std.proofs.lemmas.List.{map-append}
 use Rattle.general_laws.specs.Members.{distinct, among}
 use Rattle.std.specs.List.{sum}
 use Rattle.std.proofs.lemmas.Bool.{or_parts}

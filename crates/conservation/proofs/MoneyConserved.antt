@@ -1,6 +1,5 @@
 -- Demand 3 on the money, for a book and a tally with the same opening, today, rates and settlements.
-use Prim.Native.Nat.{ℕ, ◌+◌, ◌*◌}
-use mathlib.Core.Path.{◌≡◌, sym, ap, ◌∙◌}
+use Rattle.std.proofs.Common.{ℕ, ◌+◌, ◌*◌, ◌≡◌, sym, ap, ◌∙◌}
 use Rattle.general_laws.specs.Sums.{sum_below}
 use Rattle.rates.specs.Rate.{daily_of}
 use Rattle.book_model.specs.declared.Book.{Book}

@@ -1,15 +1,9 @@
 -- A position without unit-days that comes last: it changes nobody's part of an amount, and has none itself.
-use Prim.Native.Nat.{ℕ, suc, ◌<◌}
-use native.Mathlib.Omega.{arith}
-use native.Mathlib.Nat.{mul-zero, zero-div, zero-mod}
-use native.Mathlib.Numerals.{add-one}
-use mathlib.Core.Path.{◌≡◌, ap₂, ◌∙◌}
-use mathlib.Core.Bool.{false, ◌&&◌, ◌||◌, and-false}
-use mathlib.Core.List.{List, [], ◌∷◌, ◌++◌}
-use borrow.Author.Tests.{le-ltb}
-use lib.Dec.{ltb, eqb}
-use lib.ListN.{length, length-append, get_or-append}
-use lib.Seq.{get_or-append_seam}
+use Rattle.std.proofs.Common.{ℕ, suc, ◌<◌, arith, mul-zero, add-one, ◌≡◌, ap₂, ◌∙◌, false, ◌&&◌, ◌||◌, List, [], ◌∷◌, ◌++◌, le-ltb, ltb, eqb, length, length-append}
+use Rattle.std.proofs.Math.Bool.{and-false}
+use Rattle.std.proofs.Math.ListN.{get_or-append}
+use Rattle.std.proofs.Math.Nat.{zero-div, zero-mod}
+use Rattle.std.proofs.Math.Seq.{get_or-append_seam}
 use Rattle.general_laws.specs.Sums.{sum_below}
 use Rattle.apportionment.proofs.Callers.{nothing_for_none, weight-total}
 use Rattle.general_laws.proofs.Counts.{count_same, count-suc}

@@ -1,6 +1,6 @@
 -- An accepted opening agrees with the tally's start.
-use mathlib.Core.Path.{◌≡◌, refl, sym, ap, ◌∙◌}
-use mathlib.Core.List.{map, map-map}
+use Rattle.std.proofs.Common.{◌≡◌, refl, sym, ap, ◌∙◌, map}
+use mathlib.Core.List.{map-map}
 use Rattle.std.specs.List.{sum}
 use Rattle.general_laws.specs.Sums.{sum_below}
 use Rattle.book_model.specs.declared.Book.{Book}

@@ -1,6 +1,5 @@
 -- The tally's opening and rates are the book's: what an opening leaves, a rate order changes, and every other call keeps.
-use Prim.Native.Nat.{ℕ, ◌-◌}
-use mathlib.Core.Path.{◌≡◌, refl, ap, ◌∙◌}
+use Rattle.std.proofs.Common.{ℕ, ◌-◌, ◌≡◌, refl, ap, ◌∙◌}
 use Rattle.calendar.specs.Calendar.{day_count}
 use Rattle.account.specs.declared.Account.{Account}
 use Rattle.book_model.specs.declared.Book.{Book}

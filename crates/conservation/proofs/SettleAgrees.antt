@@ -1,12 +1,6 @@
 -- An accepted Settle keeps the agreement with the tally.
-use Prim.Native.Nat.{ℕ, ◌+◌, ◌≤◌, ◌<◌}
-use native.Mathlib.Omega.{arith}
-use mathlib.Core.Path.{◌≡◌, refl, sym, ap, ap₂, ◌∙◌}
-use mathlib.Core.Bool.{cond}
-use mathlib.Core.List.{List, map}
-use mathlib.Core.Option.{Option, none, some}
-use borrow.Author.Tests.{eq-eqb, ne_eqb}
-use lib.Dec.{eqb}
+use Rattle.std.proofs.Common.{ℕ, ◌+◌, ◌≤◌, ◌<◌, arith, ◌≡◌, refl, sym, ap, ap₂, ◌∙◌, cond, List, map, eq-eqb, ne_eqb, eqb}
+use Rattle.std.proofs.Math.Option.{Option, none, some}
 use Rattle.general_laws.specs.Sums.{sum_below}
 use Rattle.general_laws.proofs.Members.{map_same}
 use Rattle.general_laws.proofs.Sums.{sum_same}

@@ -1,9 +1,5 @@
 -- Days passed at one annual rate, its daily rate a known number: the book that they give computes.
-use Prim.Native.Nat.{ℕ, zero, suc, ◌+◌}
-use mathlib.Core.Path.{◌≡◌, refl, ap, ◌∙◌}
-use mathlib.Core.List.{[], ◌∷◌, map}
-use native.Mathlib.Omega.{arith}
-use borrow.Author.Tests.{le-leb}
+use Rattle.std.proofs.Common.{ℕ, zero, suc, ◌+◌, ◌≡◌, refl, ap, ◌∙◌, [], ◌∷◌, map, arith, le-leb}
 use Rattle.rates.specs.Rate.{daily_of}
 use Rattle.book_model.specs.declared.Book.{Book}
 use Rattle.account.specs.Accrual.{accrued_day}

@@ -1,7 +1,6 @@
 -- The tally's sums of money: they go by each day's daily rate and settlement alone, and accrued is a sum over the elapsed days.
-use Prim.Native.Nat.{ℕ, zero, suc, ◌+◌, ◌*◌}
-use mathlib.Core.Path.{◌≡◌, refl, ap, ◌∙◌}
-use mathlib.Core.Option.{Option, none, some}
+use Rattle.std.proofs.Common.{ℕ, zero, suc, ◌+◌, ◌*◌, ◌≡◌, refl, ap, ◌∙◌}
+use Rattle.std.proofs.Math.Option.{Option, none, some}
 use Rattle.general_laws.specs.Sums.{sum_below}
 use Rattle.conservation.specs.Tally.{Sums, outstanding_of, paying, before, through}
 

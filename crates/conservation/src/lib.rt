@@ -1,4 +1,4 @@
-// Demand 3 as one theorem over lists of calls: the book equals the tally of document 01, to the cent. And document 01's checked examples.
+// One theorem over lists of calls: the book equals the tally of document 01, to the cent. And document 01's checked examples.
 #![tactic(auto)]
 
 ghost use Rattle.conservation.specs.Conservation.{Conservation, ReachedConserved, ReachedBookConserved};

@@ -1,6 +1,6 @@
-// What the month prints for a person. No contract can say what is printed.
+// What the month prints for a person. No contract can say what a `Print` is given.
 use answers::Numbered;
-use book::{Book, Placed, ReachedBook, Refusal, Totals};
+use book::{ReachedBook, Refusal, Totals};
 
 pub fn put_refused(rt: &impl Print, refusal: Refusal) {
     let _ = println!(rt; "Refused with {}.", refusal.number());
@@ -20,11 +20,10 @@ pub fn put_totals(rt: &impl Print, book: &ReachedBook) {
     }
 }
 
-// Each position in book order, up to the first place that is refused, in columns as wide as an H line's.
+// Each position in book order, in columns as wide as an H line's.
 pub fn put_positions(rt: &impl Print, book: &ReachedBook) {
     let _ = println!(rt; "\n   Holder    Share   Unit-days       Received");
-    let placed = (0..Book::POSITIONS).map_while(|place| book::position_at(book, place).ok());
-    for Placed { position, .. } in placed {
+    for position in book.book.held() {
         let _ = println!(rt;
             "{:>9}{:>9}{:>12}{:>15}",
             position.holder, position.share.0, position.unit_days, position.received.0

@@ -1,6 +1,5 @@
 -- The load after a line that makes a call, by the case of its answer.
-use Rattle.std.proofs.Common.{arith, ℕ, ◌≡◌, ◌+◌, ◌-◌, ◌<◌, refl, sym, ap, ◌∙◌, ◌≢◌, Result, Ok, Err, cond, Bool, []}
-use mathlib.Core.Path.{ap₂}
+use Rattle.std.proofs.Common.{arith, ℕ, ◌≡◌, ◌+◌, ◌-◌, ◌<◌, refl, sym, ap, ◌∙◌, ◌≢◌, Result, Ok, Err, cond, Bool, [], ap₂}
 use Rattle.account.specs.declared.Day.{Day}
 use Rattle.book_model.specs.declared.Book.{Book}
 use Rattle.book_model.specs.declared.Parts.{Parts}

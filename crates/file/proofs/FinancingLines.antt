@@ -1,8 +1,7 @@
 -- The F lines of an opening: what each does to the load, and what holds of the lists gathered so far.
-use Rattle.std.proofs.Common.{arith, ℕ, ◌≡◌, ◌+◌, ◌≤◌, ◌<◌, refl, sym, ap, ◌∙◌, List, [], ◌∷◌, ◌++◌, Result, Ok, Err, length, get_or, drop}
-use mathlib.Core.Path.{ap₂}
-use lib.ListN.{length-append, get_or-eq_default}
-use borrow.Author.Tests.{le-leb, lt-leb}
+use Rattle.std.proofs.Common.{arith, ℕ, ◌≡◌, ◌+◌, ◌≤◌, ◌<◌, refl, sym, ap, ◌∙◌, List, [], ◌∷◌, ◌++◌, Result, Ok, Err, length, get_or, drop, ap₂, length-append, le-leb}
+use Rattle.std.proofs.Math.ListN.{get_or-eq_default}
+use Rattle.std.proofs.lemmas.Bool.{lt-leb}
 use Rattle.general_laws.proofs.Choice.{by_order}
 use Rattle.book_model.specs.declared.Book.{Book}
 use Rattle.book_model.specs.declared.Refusal.TheVariants as book-refusal

@@ -1,6 +1,5 @@
 -- What the line at a reader does where no opening waits, by what reading it gave.
-use Rattle.std.proofs.Common.{arith, ℕ, ◌≡◌, ◌≢◌, ◌+◌, sym, ap, ◌∙◌, Bool, List, [], Ok, Err, length, get_or, drop}
-use lib.Dec.{eqb}
+use Rattle.std.proofs.Common.{arith, ℕ, ◌≡◌, ◌≢◌, ◌+◌, sym, ap, ◌∙◌, Bool, List, [], Ok, Err, length, get_or, drop, eqb}
 use Rattle.std.proofs.lemmas.Bool.Decides.{nat_tests}
 use Rattle.book_model.specs.declared.Book.{Book}
 use Rattle.line.specs.declared.Fields.{Fields}

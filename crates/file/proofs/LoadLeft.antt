@@ -1,6 +1,5 @@
 -- What is left of a file at each turn of the load gives what the whole file gives.
-use Rattle.std.proofs.Common.{arith, ℕ, ◌≡◌, ◌≢◌, ◌+◌, ◌-◌, refl, sym, ap, ◌∙◌, List, [], ◌∷◌, Result, Ok, Err, length, drop}
-use lib.Dec.{eqb}
+use Rattle.std.proofs.Common.{arith, ℕ, ◌≡◌, ◌≢◌, ◌+◌, ◌-◌, refl, sym, ap, ◌∙◌, List, [], ◌∷◌, Result, Ok, Err, length, drop, eqb}
 use Rattle.book_model.specs.declared.Book.{Book}
 use Rattle.line.specs.declared.Fields.{Fields}
 use Rattle.line.specs.Line.{read_stated, line_of}

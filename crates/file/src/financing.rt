@@ -7,7 +7,7 @@ use arrayvec::ArrayVec;
 use book::{Book, Refusal};
 use file_model::{LoadFault, LoadRefusal};
 
-// Holders and shares in the order of their lines. Two lists, as Open takes them, and no heap.
+// Holders and shares in the order of their lines: two lists, as Open takes them.
 #[derive(Drop)]
 pub struct Financing {
     pub holders: ArrayVec<u32, { Book::POSITIONS }>,

@@ -56,7 +56,8 @@ fn end(count: u64, lines: &Lines) -> Result<usize, LoadFault>
     Ok(before)
 }
 
-// A line other than E, read last, and the F lines behind an O line. Each call has arguments of its own, so the letters are told apart here.
+// A line other than E, read last, and the F lines behind an O line. Each call has arguments of its own, so the letters are told apart here: an enum of
+// orders would be made from the fields and taken apart in this one function.
 #[tactic(auto, using(crate::proofs::CallAnswers::obeys))]
 fn obey(book: &mut ReachedBook, order: Fields, lines: &mut Lines) -> Result<(), LoadFault>
     requires { (0 < lines.old.read) × (order.letter ≢ 69) }
@@ -78,7 +79,8 @@ fn obey(book: &mut ReachedBook, order: Fields, lines: &mut Lines) -> Result<(), 
     }
 }
 
-// The lines of a file in turn, each on the book that the last one left, up to where the reader stands at the file's end.
+// The lines of a file in turn, each on the book that the last one left, up to the E line: a file that ends before it is at fault. The E line alone is
+// told here, by its byte.
 #[tactic(auto, using(crate::proofs::LoadLeft::load_steps))]
 fn load_lines(file: &[u8], book: &mut ReachedBook) -> Result<usize, LoadFault>
     ensures { stopped book.old.book result book.new.book ≡ load_of book.old.book file.now }
@@ -109,7 +111,8 @@ pub fn load(file: &[u8], book: ReachedBook) -> Called<usize, LoadFault>
     }
 }
 
-// Where the part begins and ends that an answer names: the refused line, or the empty part at the file's end.
+// Where the part begins and ends that an answer names: the refused line, or the empty part at the file's end. File and answer stay apart, as callers
+// have them.
 #[tactic(auto, unfolding(file_model::specs::Load::part_start, file_model::specs::Load::part_end))]
 pub fn part_bounds(file: &[u8], answer: Result<usize, LoadFault>) -> Range<usize>
     ensures { (result.start ≡ part_start file.now answer) × (result.end ≡ part_end file.now answer) }

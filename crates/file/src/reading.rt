@@ -30,10 +30,10 @@ impl<'a> Lines<'a> {
     pub fn is_at_end(&self) -> bool
         ensures { result ≡ eqb self.now.reader.at (length self.now.reader.file.now) }
     {
-        self.reader.at == self.reader.file.len()
+        self.reader.is_at_end()
     }
 
-    // Whether the next line begins with F.
+    // Whether the next line begins with F: that byte alone, as the line isn't read yet.
     pub fn begins_with_f(&self) -> bool
         ensures { result ≡ eqb (get_or self.now.reader.file.now self.now.reader.at 0) 70 }
     {
@@ -54,7 +54,7 @@ impl<'a> Lines<'a> {
         line
     }
 
-    // A fault of the line that was read last.
+    // A fault of the line that was read last. This and the next are two methods, as one that is given the line would be no more than the struct.
     pub fn fault(&self, refusal: LoadRefusal) -> LoadFault
         ensures { (result.refusal ≡ refusal) × (result.line ≡ self.now.read) }
     {

@@ -1,8 +1,5 @@
 -- What callers cite: no refusal has the number 0, and what the crate's other files show.
-use mathlib.Core.Path.{◌≡◌, refl}
-use mathlib.Core.Bool.{false}
-use lib.Dec.{eqb}
-use borrow.Author.Tests.{ne_eqb}
+use Rattle.std.proofs.Common.{◌≡◌, refl, false, eqb, ne_eqb}
 use Rattle.book_model.proofs.Callers.{no_refusal_is_0}
 use Rattle.file_model.specs.declared.LoadRefusal.{LoadRefusal}
 use Rattle.file_model.specs.declared.LoadRefusal.TheVariants as refusal

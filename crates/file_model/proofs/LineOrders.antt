@@ -1,12 +1,5 @@
 -- What a line orders, by the answer of reading it.
-use Prim.Native.Nat.{ℕ}
-use native.Mathlib.Omega.{arith}
-use mathlib.Core.Path.{◌≡◌, refl, sym, ap, ◌∙◌}
-use mathlib.Core.Bool.{Bool, true, false, ◌&&◌}
-use mathlib.Core.List.{List}
-use borrow.Author.Tests.{eqb-true, ne_eqb}
-use lib.Dec.{eqb}
-use lib.ListN.{length, get_or}
+use Rattle.std.proofs.Common.{ℕ, arith, ◌≡◌, refl, sym, ap, ◌∙◌, Bool, true, false, ◌&&◌, List, eqb-true, ne_eqb, eqb, length, get_or}
 use Rattle.general_laws.proofs.Choice.{choice}
 use Rattle.line.specs.declared.Fields.{Fields}
 use Rattle.std.specs.Prelude.{Ok, Err}

@@ -1,16 +1,10 @@
 -- Lines whose calls are accepted in turn, and an E line with their count, are accepted; the first call that is refused decides.
-use Prim.Native.Nat.{ℕ, suc, ◌+◌, ◌≤◌, ◌<◌}
-use native.Mathlib.Omega.{arith}
-use mathlib.Core.Path.{◌≡◌, refl, sym, ap, subst, ◌∙◌}
-use mathlib.Core.Bool.{true, false}
-use mathlib.Core.List.{List, [], ◌∷◌, ◌++◌, map}
-use borrow.Author.Tests.{eqb-true, eq-eqb, ne_eqb, lt-leb}
-use lib.ListN.{length, length-append}
+use Rattle.std.proofs.Common.{ℕ, suc, ◌+◌, ◌≤◌, ◌<◌, arith, ◌≡◌, refl, sym, ap, subst, ◌∙◌, true, false, List, [], ◌∷◌, ◌++◌, map, eqb-true, eq-eqb, ne_eqb, length, length-append}
 use Rattle.book_model.specs.declared.Book.{Book}
 use Rattle.book_model.specs.Book.{empty_book}
 use Rattle.book_model.specs.Call.{Opening, Call}
 use Rattle.book_model.specs.Calls.{opened_with, book_after, number_of, accepts, run}
-use Rattle.std.proofs.lemmas.Bool.{and_parts}
+use Rattle.std.proofs.lemmas.Bool.{and_parts, lt-leb}
 use Rattle.book_model.proofs.Callers.{Financed}
 use Rattle.conservation.specs.Conservation.{opening_of}
 use Rattle.conservation.proofs.Callers.{opening-is}

@@ -1,12 +1,6 @@
 -- What the next line of a load can do: stop it with a refusal, end it, or go on. It is said of two loads at once, whose lines differ behind it.
-use Prim.Native.Nat.{ℕ, ◌+◌, ◌≤◌, ◌<◌}
-use native.Mathlib.Omega.{arith}
-use mathlib.Core.Path.{◌≡◌, refl}
-use mathlib.Core.Bool.{Bool, true, false, cond, not}
-use mathlib.Core.List.{List, [], ◌∷◌}
-use borrow.Author.Tests.{eqb-true, eqb-false, not-false}
-use lib.Dec.{leb, eqb}
-use lib.ListN.{length}
+use Rattle.std.proofs.Common.{ℕ, ◌+◌, ◌≤◌, ◌<◌, arith, ◌≡◌, refl, Bool, true, false, cond, not, List, [], ◌∷◌, eqb-true, leb, eqb, length}
+use Rattle.std.proofs.lemmas.Bool.{eqb-false, not-false}
 use Rattle.book_model.specs.declared.Book.{Book}
 use Rattle.book_model.specs.Call.{Opening, Call}
 use Rattle.book_model.specs.Calls.{opened_with, book_after, number_of}

@@ -1,10 +1,5 @@
 -- An accepted file's book is the run of its lines' calls, and loads go on from reached books to reached books.
-use Prim.Native.Nat.{ℕ, ◌+◌, ◌<◌}
-use native.Mathlib.Omega.{arith}
-use mathlib.Core.Path.{◌≡◌, refl, sym, ap, subst}
-use mathlib.Core.Bool.{true}
-use mathlib.Core.List.{List, [], ◌∷◌, ◌++◌, map}
-use borrow.Author.Tests.{eq-eqb}
+use Rattle.std.proofs.Common.{ℕ, ◌+◌, ◌<◌, arith, ◌≡◌, refl, sym, ap, subst, true, List, [], ◌∷◌, ◌++◌, map, eq-eqb}
 use Rattle.book_model.specs.declared.Book.{Book}
 use Rattle.book_model.specs.Book.{empty_book}
 use Rattle.book_model.specs.Call.{Opening, Call}

@@ -1,8 +1,5 @@
 -- Calls and open books: an accepted opening opens, a call leaves an open book open, and none is accepted on another.
-use Prim.Native.Nat.{ℕ, zero, suc}
-use native.Mathlib.Omega.{arith}
-use mathlib.Core.Path.{◌≡◌, refl, ◌∙◌}
-use mathlib.Core.Bool.{true}
+use Rattle.std.proofs.Common.{ℕ, zero, suc, arith, ◌≡◌, refl, ◌∙◌, true}
 use Rattle.book_model.specs.declared.Book.{Book}
 use Rattle.book_model.specs.Advance.{day_passed, days_passed}
 use Rattle.book_model.specs.Book.{empty_book, with_held, with_account, with_today, with_settlement}

@@ -1,7 +1,5 @@
 -- An opening with more holders and shares behind its own.
-use Prim.Native.Nat.{ℕ}
-use mathlib.Core.Path.{◌≡◌}
-use mathlib.Core.List.{List, [], ◌∷◌, ◌++◌, append-nil, append_assoc}
+use Rattle.std.proofs.Common.{ℕ, ◌≡◌, List, [], ◌∷◌, ◌++◌, append-nil, append_assoc}
 use Rattle.book_model.specs.Call.{Opening}
 use Rattle.file_model.specs.Load.{opening_with, with_holder}
 

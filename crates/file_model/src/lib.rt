@@ -65,7 +65,7 @@ impl Numbered for LoadFault {
     }
 }
 
-// The number of the refused line, 0 where the file is accepted.
+// The number of the refused line, 0 where the file is accepted, as C programs get it.
 pub fn line_named(answer: Result<usize, LoadFault>) -> usize
     ensures { result ≡ line_named answer }
 {

@@ -1,7 +1,7 @@
 // Loads the files of the input on a book, writes and reads its lines, and prints the answer to each case.
 #![tactic(auto)]
 
-use answers::{Numbered, number_of};
+use answers::number_of;
 use book::ReachedBook;
 use book_cases::{put_position, put_totals};
 use cases::{Cases, digest, fill};
@@ -17,21 +17,21 @@ const BUFFER: usize = 100;
 
 // All positions in book order, their number first.
 fn put_positions(rt: &impl Print, book: &ReachedBook) {
-    let count = book::position_at(book, 0).map_or(0, |placed| placed.count);
-    let _ = println!(rt; "{count}");
-    for place in 0..count {
-        if let Ok(placed) = book::position_at(book, place) {
-            put_position(rt, placed.position);
-        }
+    let held = book.book.held();
+    let _ = println!(rt; "{}", held.len());
+    for position in held {
+        put_position(rt, *position);
     }
 }
 
 // Number, line and count of a load, and the part of the file that it refuses.
 fn put_answer(rt: &impl Print, file: &[u8], answer: Result<usize, LoadFault>) {
-    let _ = match answer {
-        Ok(count) => print!(rt; "0 0 {count} "),
-        Err(fault) => print!(rt; "{} {} 0 ", fault.number(), fault.line),
-    };
+    let count = answer.unwrap_or(0);
+    let _ = print!(rt;
+        "{} {} {count} ",
+        number_of(answer),
+        file::line_named(answer)
+    );
     let part = file::part_bounds(file, answer);
     let digest = digest(file::refused_part(file, answer));
     let _ = println!(rt; "{} {} {digest}", part.start, part.end);
@@ -62,13 +62,13 @@ fn write(rt: &impl Print, cases: &mut Cases) {
 }
 
 fn read(rt: &impl Print, line: &[u8]) {
-    let _ = match read_line(line) {
-        Ok(f) => println!(rt;
-            "0 {} {} {} {} {}",
-            f.letter, f.date, f.first, f.second, f.third
-        ),
-        Err(refusal) => println!(rt; "{} 0 0 0 0 0", refusal.number()),
-    };
+    let answer = read_line(line);
+    let f = answer.unwrap_or_default();
+    let _ = print!(rt; "{} ", number_of(answer));
+    let _ = println!(rt;
+        "{} {} {} {} {}",
+        f.letter, f.date, f.first, f.second, f.third
+    );
 }
 
 // One case: 0 is a new book, 1 a load, 2 a line written, and any other a line read. The numbers are the input's and told apart once, here, so no

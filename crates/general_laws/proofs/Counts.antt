@@ -1,8 +1,5 @@
 -- How many numbers below n pass a test, and the 1 or 0 that one test counts.
-use Prim.Native.Nat.{ℕ, suc, ◌+◌, ◌≤◌, ◌<◌}
-use native.Mathlib.Omega.{arith}
-use mathlib.Core.Path.{◌≡◌, refl, ◌∙◌}
-use mathlib.Core.Bool.{Bool, true, false, cond}
+use Rattle.std.proofs.Common.{ℕ, suc, ◌+◌, ◌≤◌, ◌<◌, arith, ◌≡◌, refl, ◌∙◌, Bool, true, false, cond}
 use Rattle.general_laws.specs.Sums.{sum_below, count_below}
 use Rattle.general_laws.proofs.Sums.{sum_same, sum_le, sum_lt, sum_constant, sum-zero}
 

@@ -1,13 +1,7 @@
 -- A test that is computed once, at every number below a bound or at every entry of a list, and lifted to each of them.
-use mathlib.Core.Path.{◌≡◌, sym, subst, ◌∙◌}
-use mathlib.Core.Logic.{⊎_elim}
-use mathlib.Core.Bool.{Bool, true, ◌&&◌, and-eq-true_iff}
-use mathlib.Core.List.{List, [], ◌∷◌}
-use Prim.Native.Nat.{ℕ, zero, suc, ◌+◌, ◌<◌}
-use native.Mathlib.Nat.{add-zero, zero-add, add-suc, suc-add, eq-or-lt_of_le, le_of_suc-le-suc, not-suc-le-zero}
-use lib.Dec.{T}
+use Rattle.std.proofs.Common.{◌≡◌, sym, subst, ◌∙◌, ⊎_elim, Bool, true, ◌&&◌, List, [], ◌∷◌, ℕ, zero, suc, ◌+◌, ◌<◌, add-zero, zero-add, add-suc, suc-add, eq-or-lt_of_le, le_of_suc-le-suc, not-suc-le-zero, T, length, get_or, take, drop}
+use Rattle.std.proofs.Math.Bool.{and-eq-true_iff}
 use lib.Ieee.Fits.{and_i, and_l, and_r}
-use lib.ListN.{length, get_or, take, drop}
 
 -- Numbers below a bound
 

@@ -1,11 +1,7 @@
 -- The front of an array: its first places stored to, or filled one by one from a list.
-use Prim.Native.Nat.{ℕ, suc, ◌+◌, ◌≤◌, ◌<◌}
-use native.Mathlib.Omega.{arith}
-use native.Mathlib.Numerals.{add-one}
-use mathlib.Core.Path.{◌≡◌}
-use mathlib.Core.List.{List, [], ◌∷◌, ◌++◌}
-use lib.ListN.{length, take, drop, get_or, set, length-set, take-append-drop}
-use lib.Seq.{drop-cons, take-suc, take-length, append_snoc, get_or_at, set_at, set_split, take-set-lt, drop-set-lt, length-take-le}
+use Rattle.std.proofs.Common.{ℕ, suc, ◌+◌, ◌≤◌, ◌<◌, arith, add-one, ◌≡◌, List, [], ◌∷◌, ◌++◌, length, take, drop, get_or, set, length-set, take-append-drop, drop-cons, take-suc, drop-set-lt, length-take-le}
+use Rattle.std.proofs.Math.Seq.{take-length, append_snoc, take-set-lt}
+use Rattle.std.proofs.lemmas.List.{get_or_at, set_at, set_split}
 
 -- Stores among the first n places of an array, the rest of it unchanged
 

@@ -1,7 +1,6 @@
 -- General laws of numbers and lists: other crates cite them.
 pub mod Choice
 pub mod Every
-pub mod Differences
 pub mod Sums
 pub mod Counts
 pub mod Lists

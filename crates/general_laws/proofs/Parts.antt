@@ -1,10 +1,6 @@
 -- Parts of a list, each n elements from a place on: one element longer, what follows a part, and what stands past one.
-use Prim.Native.Nat.{ℕ, suc, ◌+◌, ◌≤◌}
-use native.Mathlib.Omega.{arith}
-use mathlib.Core.Path.{◌≡◌, sym, ap, ◌∙◌}
-use mathlib.Core.List.{List, [], ◌∷◌, ◌++◌}
-use lib.ListN.{length, get_or, take, drop, length-drop, take-append-drop}
-use lib.Seq.{take-suc, get_or-drop, drop-drop, drop-append-add}
+use Rattle.std.proofs.Common.{ℕ, suc, ◌+◌, ◌≤◌, arith, ◌≡◌, sym, ap, ◌∙◌, List, [], ◌∷◌, ◌++◌, length, get_or, take, drop, length-drop, take-append-drop, take-suc, get_or-drop, drop-drop}
+use Rattle.std.proofs.Math.Seq.{drop-append-add}
 
 module _ {A : Type 0} where
   pub part_longer : (l : List A) (i n : ℕ) (d : A) → i + suc n ≤ length l → take (suc n) (drop i l) ≡ take n (drop i l) ++ (get_or l (i + n) d ∷ [])

@@ -1,7 +1,6 @@
 -- Powers of numbers, and numbers below a power.
-use Prim.Native.Nat.{ℕ, zero, suc, ◌+◌, ◌*◌, ◌/◌, ◌%◌, ◌^◌, ◌≤◌, ◌<◌}
-use native.Mathlib.Nat.{pow-zero, pow-suc, pow-succ', one-le-pow, le-mul_of_pos_right, div-lt_iff_lt-mul, mul_left_comm, mul-add, mul-one, mul-add-mod_self_left}
-use mathlib.Core.Path.{◌≡◌, refl, ◌∙◌, ap}
+use Rattle.std.proofs.Common.{ℕ, zero, suc, ◌+◌, ◌*◌, ◌/◌, ◌%◌, ◌^◌, ◌≤◌, ◌<◌, pow-suc, le-mul_of_pos_right, div-lt_iff_lt-mul, mul_left_comm, mul-add, mul-one, ◌≡◌, refl, ◌∙◌, ap}
+use Rattle.std.proofs.Math.Nat.{pow-zero, pow-succ', one-le-pow, mul-add-mod_self_left}
 
 pub quotient-below : (k n w : ℕ) → 0 < k → n < k ^ suc w → n / k < k ^ w
 quotient-below k n w pos h = (div-lt_iff_lt-mul {k = k} pos).1 (rw pow-suc at h)

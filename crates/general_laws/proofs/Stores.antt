@@ -1,11 +1,6 @@
 -- Stores into a list, one after the other from a place on: two runs as one.
-use Prim.Native.Nat.{ℕ, suc, ◌+◌}
-use native.Mathlib.Nat.{add-zero}
-use native.Mathlib.Omega.{arith}
-use mathlib.Core.Path.{◌≡◌, ap, ◌∙◌}
-use mathlib.Core.List.{List, [], ◌∷◌, ◌++◌}
-use lib.ListN.{length, set}
-use lib.Seq.{sets}
+use Rattle.std.proofs.Common.{ℕ, suc, ◌+◌, add-zero, arith, ◌≡◌, ap, ◌∙◌, List, [], ◌∷◌, ◌++◌, length, set}
+use Rattle.std.proofs.lemmas.List.Edits.{sets}
 
 module _ {A : Type 0} where
   -- two runs, one behind the other, are one

@@ -1,16 +1,17 @@
 -- Sums of lists of numbers.
-use Prim.Native.Nat.{ℕ, zero, suc, ◌+◌, ◌≤◌}
-use native.Mathlib.Omega.{arith}
-use mathlib.Core.Path.{◌≡◌, refl, sym, ◌∙◌}
-use mathlib.Core.List.{List, [], ◌∷◌, map}
-use lib.ListN.{length, get_or}
-use Rattle.std.specs.List.{sum}
+use Rattle.std.proofs.Common.{ℕ, zero, suc, ◌+◌, ◌≤◌, min, arith, ◌≡◌, refl, sym, ◌∙◌, List, [], ◌∷◌, map, length, get_or}
+use Rattle.std.specs.List.{fold, sum}
+use Rattle.std.proofs.lemmas.List.Folds.{fold_along}
 use Rattle.std.proofs.lemmas.List.Sums.{sum_by-cons}
 use Rattle.general_laws.specs.Sums.{sum_below}
 use Rattle.general_laws.proofs.Sums.{sum-none, sum_first}
 
 pub sum-cons : (n : ℕ) (ns : List ℕ) → sum (n ∷ ns) ≡ n + sum ns
 sum-cons = sum_by-cons (λ n. n)
+
+-- a sum that stops at a greatest number
+pub fold_capped : (g : ℕ) (ns : List ℕ) → fold (λ s n. min (s + n) g) 0 ns ≡ min (sum ns) g
+fold_capped g ns = fold_along (λ s n. min (s + n) g) (λ s n. s + n) (λ s t. s ≡ min t g) (λ s t n e. omega arith) 0 0 ns (omega arith)
 
 -- no element adds more than the sum
 pub total_most_of : {A : Type 0} (f : A → ℕ) (xs : List A) (k : ℕ) (d : A) → f d ≡ 0 → f (get_or xs k d) ≤ sum (map f xs)

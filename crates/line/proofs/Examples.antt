@@ -1,5 +1,5 @@
 -- The worked examples, by computation.
-use mathlib.Core.Path.{refl}
+use Rattle.std.proofs.Common.{refl}
 use Rattle.line.specs.Field.{field_at}
 use Rattle.line.specs.Line.{uses_of, assembled_of, columns_of, line_of}
 use Rattle.line.specs.Examples.{Examples}

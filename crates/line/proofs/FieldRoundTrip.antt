@@ -1,12 +1,6 @@
 -- A written field reads back, and a field that is read is written as the same bytes, at every width.
-use mathlib.Core.Path.{◌≡◌, refl, sym, ap, ◌∙◌}
-use mathlib.Core.Bool.{cond}
-use mathlib.Core.List.{List, [], ◌∷◌, ◌++◌}
-use Prim.Native.Nat.{ℕ, zero, suc, ◌+◌, ◌*◌, ◌/◌, ◌%◌, ◌^◌, ◌≤◌, ◌<◌}
-use native.Mathlib.Nat.{one-le-pow}
-use native.Mathlib.Omega.{arith}
-use lib.Dec.{eqb}
-use lib.ListN.{length, get_or, take, drop}
+use Rattle.std.proofs.Common.{◌≡◌, refl, sym, ap, ◌∙◌, cond, List, [], ◌∷◌, ◌++◌, ℕ, zero, suc, ◌+◌, ◌*◌, ◌/◌, ◌%◌, ◌^◌, ◌≤◌, ◌<◌, arith, eqb, length, get_or, take, drop}
+use Rattle.std.proofs.Math.Nat.{one-le-pow}
 use Rattle.general_laws.proofs.Parts.{part_longer}
 use Rattle.general_laws.proofs.Powers.{quotient-below}
 use Rattle.std.proofs.lemmas.Bool.Decides.{nat_tests}

@@ -1,12 +1,7 @@
 -- The columns of a number, stored from the right to the left.
-use mathlib.Core.Path.{◌≡◌, refl, sym, ap, ◌∙◌}
-use mathlib.Core.List.{List, [], ◌∷◌, ◌++◌, append_assoc}
-use Prim.Native.Nat.{ℕ, zero, suc, ◌+◌, ◌/◌, ◌%◌, ◌≤◌, ◌<◌}
+use Rattle.std.proofs.Common.{◌≡◌, refl, sym, ap, ◌∙◌, List, [], ◌∷◌, ◌++◌, append_assoc, ℕ, zero, suc, ◌+◌, ◌/◌, ◌%◌, ◌≤◌, ◌<◌, arith, length, set, take, drop, drop_of_length-le, replicate, length-append, drop-drop, add-one}
+use Rattle.std.proofs.lemmas.List.Edits.{sets, sets-eq}
 use borrow.Rule.Slice.PartMut.{put_mid}
-use native.Mathlib.Omega.{arith}
-use lib.ListN.{length, set, take, drop, drop_of_length-le, replicate, length-append}
-use lib.Seq.{sets, sets-eq, drop-drop}
-use native.Mathlib.Numerals.{add-one}
 use Rattle.std.proofs.lemmas.List.{drop-set, replicate_more}
 use Rattle.line.specs.Field.{symbol_of, padded, justified}
 

@@ -13,8 +13,8 @@ pub fn first_filled(columns: &[u8]) -> Option<usize>
     columns.iter().position(|&column| column != b' ')
 }
 
-// The field of columns that don't begin with a space: digits up to its end, without a leading 0. std's parse takes a plus sign and leading zeros,
-// which are refused here. The bound of 18 columns is asked by each function that reads, as each is given a slice of its own.
+// The field of columns that don't begin with a space: digits up to its end, with no 0 before others. std's parse takes a plus sign and leading zeros,
+// which are refused here. The bound of 18 columns is asked by each function that reads: a type of columns would be made for four fields of `read_line`.
 #[tactic(auto, using(crate::proofs::FieldReading::digit_steps), unfolding(crate::specs::Field::field_at))]
 pub fn read_digits(digits: &[u8]) -> Result<u64, Malformed>
     requires { (0 < length digits.now) × (length digits.now ≤ 18) × (get_or digits.now 0 0 ≡ space → ⊥) }
@@ -42,7 +42,9 @@ pub fn read_field(columns: &[u8]) -> Result<Option<u64>, Malformed>
     requires { length columns.now ≤ 18 }
     ensures { result ≡ field_at columns.now 0 (length columns.now) }
 {
-    first_filled(columns).map_or(Ok(None), |first| read_digits(&columns[first..]).map(Some))
+    first_filled(columns)
+        .map(|first| read_digits(&columns[first..]))
+        .transpose()
 }
 
 // The number of a used field, or 0 of an unused one, which is all spaces.
@@ -84,7 +86,7 @@ pub fn write_number(columns: &mut [u8], n: u64)
     }
 }
 
-// Writes a used field's number into its columns, or spaces for an unused one.
+// Writes a used field's number into its columns, or spaces for an unused one, whose number a writer is given too.
 #[tactic(auto, using(crate::proofs::NumberStores::spaces), unfolding(crate::specs::Write::field_bytes))]
 pub fn write_field(columns: &mut [u8], used: bool, n: u64)
     ensures { columns.new ≡ field_bytes used (length columns.old) n }

@@ -15,8 +15,8 @@ pub use crate::write::write_line;
 use answers::Numbered;
 
 // A line's fields: the letter's byte, the date and the three numbers. One that the letter doesn't use is 0. The letter is a byte and no enum, as C
-// programs give and get it, and a writer is given any.
-#[derive(Clone, Copy)]
+// programs give and get it and a writer is given any: where one is told apart, b'D' says as much as a name would.
+#[derive(Clone, Copy, Default)]
 pub struct Fields {
     pub letter: u8,
     pub date: u32,
@@ -25,7 +25,7 @@ pub struct Fields {
     pub third: u64,
 }
 
-// The refusal of a line that is not in its form, and of a buffer that is too short.
+// The refusal of a line that is not in its form, of fields that make no line, and of a buffer that is too short.
 #[derive(Clone, Copy, Debug, PartialEq, Eq)]
 pub struct Malformed;
 

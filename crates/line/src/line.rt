@@ -24,6 +24,7 @@ pub struct Uses {
     pub third: bool,
 }
 
+// What a letter's lines use; the letter is a byte, as in `Fields`.
 #[tactic(auto, unfolding(crate::specs::Line::uses_of))]
 pub fn uses_for(letter: u8) -> Option<Uses>
     ensures { result ≡ uses_of letter }

@@ -7,7 +7,8 @@ use crate::field::write_field;
 use crate::line::{DATE, FIRST, SECOND, THIRD, Uses, uses_for};
 use crate::{Fields, LINE_BYTES, Malformed};
 
-// Whether a field of that many columns takes n: it fits, or it is 0 where the field is unused, so n is needed there too.
+// Whether a field of that many columns takes n: it fits, or it is 0 where the field is unused, so n is needed there too. At most 18 columns, so that 10 to
+// them fits 64 bits.
 pub fn takes(used: bool, columns: u32, n: u64) -> bool
     requires { columns ≤ 18 }
     ensures { result ≡ fits used (10 ^ columns) n }
@@ -20,10 +21,10 @@ pub fn takes(used: bool, columns: u32, n: u64) -> bool
 pub fn can_write(uses: Uses, f: Fields) -> bool
     ensures { result ≡ fits_all (Some uses) f }
 {
-    takes(uses.date, 8, f.date.into())
-        && takes(uses.first, 9, f.first.into())
-        && takes(uses.second, 9, f.second.into())
-        && takes(uses.third, 15, f.third)
+    takes(uses.date, DATE.len() as u32, f.date.into())
+        && takes(uses.first, FIRST.len() as u32, f.first.into())
+        && takes(uses.second, SECOND.len() as u32, f.second.into())
+        && takes(uses.third, THIRD.len() as u32, f.third)
 }
 
 // Writes the line's 43 bytes.

@@ -5,7 +5,8 @@ ghost use Rattle.lines.specs.Lines.{line_start, line_end, part_of};
 use crate::reading::Reader;
 use std::ops::Range;
 
-// Where the line of a number begins; 0 is no line, and stands for the file's end. The loop goes no further than that, whatever the number.
+// Where the line of a number begins; 0 is no line, and stands for the file's end, as C programs get it. The loop goes no further than that, whatever
+// the number.
 #[tactic(auto, using(crate::proofs::LinePositions::start_next, crate::proofs::LinePositions::start_stays), unfolding(crate::specs::Lines::line_start, crate::specs::Lines::start_of))]
 pub fn line_start(file: &[u8], number: usize) -> usize
     ensures { result ≡ line_start file.now number }
@@ -15,7 +16,7 @@ pub fn line_start(file: &[u8], number: usize) -> usize
     }
     let mut reader = Reader::new(file, 0);
     for _ in 1..number {
-        if reader.at == file.len() {
+        if reader.is_at_end() {
             break;
         }
         reader.at = reader.line_end();
@@ -23,7 +24,7 @@ pub fn line_start(file: &[u8], number: usize) -> usize
     reader.at
 }
 
-// Where the line of a number begins and ends.
+// Where the line of a number begins and ends. File and number stay apart, as callers have them.
 #[tactic(auto, unfolding(crate::specs::Lines::line_end))]
 pub fn line_bounds(file: &[u8], number: usize) -> Range<usize>
     ensures { (result.start ≡ line_start file.now number) × (result.end ≡ line_end file.now number) }

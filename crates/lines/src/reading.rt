@@ -34,6 +34,12 @@ impl<'a> Reader<'a> {
         Reader { file, at }
     }
 
+    pub fn is_at_end(&self) -> bool
+        ensures { result ≡ eqb self.now.at (length self.now.file.now) }
+    {
+        self.at == self.file.len()
+    }
+
     // What the file has from the reader on.
     fn rest(&self) -> &'a [u8]
         ensures { result.now ≡ drop self.now.at self.now.file.now }

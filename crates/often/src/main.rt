@@ -27,7 +27,7 @@ fn put_settlements(rt: &impl Print, input: &mut Cases) {
 fn main(rt: HostRuntime) -> io::Result<()> {
     let mut buffer = [0u8; INPUT];
     let mut input = Cases::read(&mut rt.stdin(), &mut buffer)?;
-    if matches!(input.text.first(), Some(b'0'..=b'9')) {
+    if input.text.first().is_some_and(u8::is_ascii_digit) {
         put_settlements(&rt, &mut input);
     } else {
         let _ = write_report(input.text, &mut rt.stdout());

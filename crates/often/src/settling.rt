@@ -1,4 +1,4 @@
-// A book that is settled often. Each call on it has a caller here, beside the one in a load.
+// A book that is settled often. Each call on it has a caller here, beside the one in a load, so that the compiler doesn't put it there.
 use book::{Book, Cents, Day, Opening, Parts, ReachedBook};
 use std::array;
 

@@ -1,6 +1,5 @@
 -- The constant table of the code, as a list. Written by tools/rate-table.
-use mathlib.Core.List.{List, [], ◌∷◌}
-use Prim.Native.Nat.{ℕ}
+use Rattle.std.proofs.Common.{List, [], ◌∷◌, ℕ}
 
 unfoldable pub daily_rates : List ℕ
 daily_rates =

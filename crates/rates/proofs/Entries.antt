@@ -1,11 +1,7 @@
 -- The rule at every entry of the table, by one test that is computed over the whole of it.
-use mathlib.Core.Bool.{Bool, not, ◌&&◌}
-use mathlib.Core.Path.{◌≡◌}
-use Prim.Native.Nat.{ℕ, suc, ◌<◌}
-use lib.Dec.{T}
+use Rattle.std.proofs.Common.{Bool, not, ◌&&◌, ◌≡◌, ℕ, suc, ◌<◌, T, get_or, take, drop}
 use lib.Ieee.Bits.{is_true, is_false}
 use lib.Ieee.Fits.{and_l, and_r}
-use lib.ListN.{get_or, take, drop}
 use Rattle.general_laws.proofs.Every.{every, at_entry, every-joined}
 use Rattle.rates.specs.Rate.{within, daily_of}
 use Rattle.rates.proofs.DailyRates.{daily_rates}

@@ -1,8 +1,5 @@
 -- The worked examples: each daily rate by its two bounds.
-use mathlib.Core.Path.{◌≡◌, refl, sym, ◌∙◌, ap}
-use Prim.Native.Nat.{ℕ, suc, ◌≤◌}
-use lib.Dec.{lit≤, lit<}
-use mathlib.Core.Bool.{true, false}
+use Rattle.std.proofs.Common.{◌≡◌, refl, sym, ◌∙◌, ap, ℕ, suc, ◌≤◌, lit≤, lit<, true, false}
 use Rattle.rates.specs.Rate.{within, rate_of, greatest_daily}
 use Rattle.rates.specs.Examples.{Examples}
 use Rattle.rates.proofs.Rule.{only}

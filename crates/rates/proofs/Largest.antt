@@ -1,8 +1,5 @@
 -- What `largest` is: it passes the test, and nothing larger does.
-use mathlib.Core.Path.{◌≡◌}
-use mathlib.Core.Bool.{Bool, true, false}
-use Prim.Native.Nat.{ℕ, zero, suc, ◌≤◌}
-use native.Mathlib.Omega.{arith}
+use Rattle.std.proofs.Common.{◌≡◌, Bool, true, false, ℕ, zero, suc, ◌≤◌, arith}
 use Rattle.general_laws.proofs.Choice.{by_order, choice}
 use Rattle.rates.specs.Rate.{largest}
 

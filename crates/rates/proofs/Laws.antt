@@ -1,7 +1,5 @@
 -- The laws of daily rates, together.
-use mathlib.Core.Path.{◌≡◌, refl, sym}
-use Prim.Native.Nat.{ℕ, ◌≤◌}
-use native.Mathlib.Nat.{le_trans, le_of_eq}
+use Rattle.std.proofs.Common.{◌≡◌, refl, sym, ℕ, ◌≤◌, le_trans, le_of_eq}
 use Rattle.rates.specs.Rate.{within, daily_of, greatest_daily}
 use Rattle.rates.specs.Laws.{Laws}
 use Rattle.rates.proofs.Rule.{none_at_0, meets, most, only, grows}

@@ -1,10 +1,7 @@
 -- The daily rate is the whole number nearest to the exact rate, which is never half-way between two.
-use mathlib.Core.Path.{◌≡◌, sym, ◌∙◌, ap}
-use mathlib.Core.Logic.{◌≢◌}
-use Prim.Native.Nat.{ℕ, suc, ◌+◌, ◌-◌, ◌*◌, ◌%◌, ◌^◌, ◌<◌}
-use native.Mathlib.Nat.{mul_assoc, mul-mod_right}
-use native.Mathlib.Numerals.{lt_of_le_of_ne}
-use native.Mathlib.Omega.{arith}
+use Rattle.std.proofs.Common.{◌≡◌, sym, ◌∙◌, ap, ◌≢◌, ℕ, suc, ◌+◌, ◌-◌, ◌*◌, ◌%◌, ◌^◌, ◌<◌, mul_assoc, arith}
+use Rattle.std.proofs.Math.Nat.{mul-mod_right}
+use Rattle.std.proofs.Math.Numerals.{lt_of_le_of_ne}
 use Rattle.general_laws.proofs.Powers.{odd_power}
 use Rattle.rates.specs.Rate.{growth, limit, daily_of}
 use Rattle.rates.specs.Exact.{exact_year}

@@ -1,13 +1,6 @@
 -- The table rises, by one test that is computed over the whole of it; so the daily rate rises with the annual rate.
-use mathlib.Core.Bool.{Bool, true, ◌&&◌}
-use mathlib.Core.List.{List, [], ◌∷◌}
-use mathlib.Core.Path.{subst}
-use Prim.Native.Nat.{ℕ, zero, suc, ◌<◌, ◌≤◌}
-use native.Mathlib.Nat.{le_of_suc-le-suc, not-suc-le-zero, lt_of_lt_of_le}
-use native.Mathlib.Omega.{arith}
-use lib.Dec.{T, ltb, ltb→lt}
+use Rattle.std.proofs.Common.{Bool, true, ◌&&◌, List, [], ◌∷◌, subst, ℕ, zero, suc, ◌<◌, ◌≤◌, le_of_suc-le-suc, not-suc-le-zero, lt_of_lt_of_le, arith, T, ltb, ltb→lt, length, get_or}
 use lib.Ieee.Fits.{and_l, and_r}
-use lib.ListN.{length, get_or}
 use Rattle.rates.specs.Rate.{daily_of}
 use Rattle.rates.proofs.DailyRates.{daily_rates}
 use Rattle.rates.proofs.Rule.{grows}

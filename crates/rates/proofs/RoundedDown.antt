@@ -1,11 +1,6 @@
 -- The daily rate is the rate rounded down, or one more.
-use mathlib.Core.Path.{◌≡◌}
-use mathlib.Core.Bool.{true}
-use Prim.Native.Nat.{ℕ, zero, suc, ◌+◌, ◌*◌, ◌^◌, ◌≤◌}
-use native.Mathlib.Nat.{le_trans, le-add_right, mul-le-mul_left, mul-le-mul_right, le_of_mul-le-mul_left, pow-le-pow_left}
-use native.Mathlib.Omega.{arith}
-use lib.Dec.{lit<}
-use borrow.Author.Tests.{leb-true, le-leb}
+use Rattle.std.proofs.Common.{◌≡◌, true, ℕ, zero, suc, ◌+◌, ◌*◌, ◌^◌, ◌≤◌, le_trans, le-add_right, mul-le-mul_left, mul-le-mul_right, arith, lit<, leb-true, le-leb}
+use Rattle.std.proofs.Math.Nat.{le_of_mul-le-mul_left, pow-le-pow_left}
 use Rattle.std.proofs.lemmas.Nat.{mul-pow}
 use Rattle.general_laws.proofs.Powers.{below_power}
 use Rattle.rates.specs.Rate.{growth, limit, within, daily_of}

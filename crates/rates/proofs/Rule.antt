@@ -1,11 +1,6 @@
 -- What `daily_of` is: it meets the rule, it is the largest that does, and the only one whose next does not.
-use mathlib.Core.Path.{◌≡◌, refl}
-use mathlib.Core.Bool.{true, false}
-use Prim.Native.Nat.{ℕ, suc, ◌≤◌, ◌<◌}
-use native.Mathlib.Nat.{le_refl, le_trans, le_antisymm, lt_of_not-le, not-le_of_lt, mul-le-mul_left, mul-le-mul_right, pow-le-pow_left, le_of_suc-le-suc}
-use native.Mathlib.Omega.{arith}
-use lib.Dec.{eqb, lit≤, lit<}
-use borrow.Author.Tests.{eqb-true, leb-true, leb-false, le-leb}
+use Rattle.std.proofs.Common.{◌≡◌, refl, true, false, ℕ, suc, ◌≤◌, ◌<◌, le_refl, le_trans, le_antisymm, lt_of_not-le, not-le_of_lt, mul-le-mul_left, mul-le-mul_right, le_of_suc-le-suc, arith, eqb, lit≤, lit<, eqb-true, leb-true, leb-false, le-leb}
+use Rattle.std.proofs.Math.Nat.{pow-le-pow_left}
 use Rattle.general_laws.proofs.Choice.{by-test, by_order, choice}
 use Rattle.general_laws.proofs.Powers.{below_power}
 use Rattle.rates.specs.Rate.{growth, limit, within, daily_of}

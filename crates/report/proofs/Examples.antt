@@ -1,7 +1,5 @@
 -- The statements of the paper's file, of the empty one and of an E line alone: what they print by the loads' own theorems, the digits by computation.
-use Prim.Native.Nat.{ℕ}
-use mathlib.Core.Path.{◌≡◌, refl, ap, ◌∙◌}
-use mathlib.Core.List.{List, [], ◌++◌}
+use Rattle.std.proofs.Common.{ℕ, ◌≡◌, refl, ap, ◌∙◌, List, [], ◌++◌}
 use Rattle.account.specs.declared.Account.{Account}
 use Rattle.book_model.specs.declared.Totals.{Totals}
 use Rattle.book_model.specs.declared.Position.{Position}

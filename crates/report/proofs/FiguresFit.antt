@@ -1,12 +1,5 @@
 -- The figures of a reached book fit their columns.
-use Prim.Native.Nat.{ℕ, zero, suc, ◌*◌, ◌+◌, ◌≤◌}
-use native.Mathlib.Omega.{arith}
-use mathlib.Core.Path.{◌≡◌, refl, sym, subst}
-use mathlib.Core.Bool.{true, not}
-use mathlib.Core.List.{List, [], ◌∷◌}
-use lib.Dec.{eqb, leb}
-use lib.ListN.{get_or}
-use borrow.Author.Tests.{leb-true}
+use Rattle.std.proofs.Common.{ℕ, zero, suc, ◌*◌, ◌+◌, ◌≤◌, arith, ◌≡◌, refl, sym, subst, true, not, List, [], ◌∷◌, eqb, leb, get_or, leb-true}
 use Rattle.book_model.specs.declared.Book.{Book}
 use Rattle.book_model.specs.declared.Position.{Position}
 use Rattle.book_model.specs.Book.{empty_book, held}

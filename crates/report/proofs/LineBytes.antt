@@ -1,11 +1,8 @@
 -- The stores that make a statement's lines.
-use mathlib.Core.Path.{◌≡◌, refl, sym, ap, ◌∙◌}
-use mathlib.Core.List.{List}
-use Prim.Native.Nat.{ℕ, ◌+◌, ◌≤◌}
-use native.Mathlib.Omega.{arith}
+use Rattle.std.proofs.Common.{◌≡◌, refl, sym, ap, ◌∙◌, List, ℕ, ◌+◌, ◌≤◌, arith, length, set, length-set}
+use Rattle.std.proofs.Math.Seq.{length-sets}
+use Rattle.std.proofs.lemmas.List.Edits.{sets}
 use borrow.Rule.Slice.PartMut.{put_mid}
-use lib.ListN.{length, set, length-set}
-use lib.Seq.{sets, length-sets}
 use Rattle.account.specs.declared.Account.{Account}
 use Rattle.book_model.specs.declared.Position.{Position}
 use Rattle.line.specs.Field.{justified}

@@ -2,6 +2,7 @@
 ghost use Rattle.std.specs.Prelude.{◌≡◌, ◌+◌, ◌≤◌, ◌++◌, length, drop, OnOk};
 ghost use Rattle.std.specs.Io.KnownBytes.{Appends};
 ghost use Rattle.std.proofs.lemmas.List.Edits.{sets};
+ghost use Rattle.book_model.specs.Book.{held};
 ghost use Rattle.report.specs.Statement.{totals_line, position_line, position_lines, refusal_line, book_printed, statement_of, report_stated, report_of};
 
 use crate::{BYTES, Short};
@@ -19,6 +20,7 @@ pub const POSITION_BYTES: usize = 47;
 const REFUSAL_BYTES: usize = 14;
 
 // The B line, at the front.
+// By `write_number`: the definitions say of any book what a column holds, of a number too wide its last digits, where `{:>15}` would write it whole.
 #[tactic(auto, using(crate::proofs::LineBytes::totals_stored))]
 pub fn put_totals(out: &mut [u8], totals: Totals)
     requires { 81 ≤ length out.old }
@@ -61,12 +63,13 @@ pub fn put_refusal(out: &mut [u8], number: u32, line: usize)
     out[13] = b'\n';
 }
 
-// The H lines of positions, behind the B line. It answers the position behind them. By place: what chunks_exact_mut leaves in a buffer is not known.
+// The H lines of a book's positions, behind the B line. It answers how many bytes stand up to their end. By place: what chunks_exact_mut leaves in
+// a buffer is not known.
 #[tactic(auto, using(crate::proofs::PositionsPut::lines_put), unfolding(crate::specs::Statement::position_lines))]
-pub fn put_positions(out: &mut [u8], held: &[Position]) -> usize
-    requires { (length held.now ≤ 64) × (3089 ≤ length out.old) }
-    ensures { (result ≡ 81 + length (position_lines held.now)) × (out.new ≡ sets out.old 81 (position_lines held.now)) }
+pub fn put_positions(out: &mut [u8; BYTES], book: &ReachedBook) -> usize
+    ensures { (result ≡ 81 + length (position_lines (held book.now.book))) × (out.new ≡ sets out.old 81 (position_lines (held book.now.book))) }
 {
+    let held = book.book.held();
     for (place, position) in held.iter().enumerate() {
         put_position(&mut out[TOTALS_BYTES + place * POSITION_BYTES..], *position);
     }
@@ -75,21 +78,19 @@ pub fn put_positions(out: &mut [u8], held: &[Position]) -> usize
 
 // The statement of a book. It answers how many bytes it has.
 #[tactic(auto, using(crate::proofs::StatementPut::book_put), unfolding(crate::specs::Statement::book_printed))]
-pub fn put_book(out: &mut [u8], book: &ReachedBook) -> usize
-    requires { 3089 ≤ length out.old }
+pub fn put_book(out: &mut [u8; BYTES], book: &ReachedBook) -> usize
     ensures { (result ≡ length (book_printed book.now.book)) × (out.new ≡ sets out.old 0 (book_printed book.now.book)) }
 {
     let Ok(totals) = book::totals(book) else {
         return 0;
     };
     put_totals(out, totals);
-    put_positions(out, &book.book.positions[..book.book.count])
+    put_positions(out, book)
 }
 
 // The statement of a file, loaded on the empty book. It answers how many bytes it has.
 #[tactic(auto, using(crate::proofs::StatementPut::statement_put), unfolding(crate::specs::Statement::statement_of, crate::specs::Statement::printed))]
-fn put_report(out: &mut [u8], file: &[u8]) -> usize
-    requires { 3089 ≤ length out.old }
+fn put_report(out: &mut [u8; BYTES], file: &[u8]) -> usize
     ensures { (result ≡ length (statement_of file.now)) × (out.new ≡ statement_of file.now ++ drop (length (statement_of file.now)) out.old) }
 {
     let loaded = file::load(file, ReachedBook::empty());
@@ -107,10 +108,8 @@ fn put_report(out: &mut [u8], file: &[u8]) -> usize
 pub fn report(file: &[u8], out: &mut [u8]) -> Result<usize, Short>
     ensures { (report_stated result ≡ (report_of file.now out.old).0) × (out.new ≡ (report_of file.now out.old).1) }
 {
-    if out.len() < BYTES {
-        return Err(Short);
-    }
-    Ok(put_report(out, file))
+    let front = out.first_chunk_mut::<BYTES>().ok_or(Short)?;
+    Ok(put_report(front, file))
 }
 
 // The statement of a file, written out. An Err is the writer's.

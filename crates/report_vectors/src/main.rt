@@ -1,7 +1,7 @@
-// Writes the statement of each file of the input into a buffer, and prints its number, its bytes and the buffer's digest.
+// Writes the statement of each file of the input into a buffer, and prints its number, its length and the buffer's digest, and then its bytes.
 #![tactic(auto)]
 
-use answers::Numbered;
+use answers::number_of;
 use cases::{Cases, digest, fill};
 use report::report;
 use std::io;
@@ -14,15 +14,10 @@ const BUFFER: usize = 4000;
 
 #[tactic(auto, unfolding(report::specs::Statement::report_of))]
 fn put_report(rt: &impl Print, file: &[u8], buffer: &mut [u8]) {
-    match report(file, buffer) {
-        Ok(count) => {
-            let _ = println!(rt; "0 {count} {}", digest(buffer));
-            let _ = rt.write_all(&buffer[..count]);
-        }
-        Err(short) => {
-            let _ = println!(rt; "{} 0 {}", short.number(), digest(buffer));
-        }
-    }
+    let printed = report(file, buffer);
+    let count = printed.unwrap_or(0);
+    let _ = println!(rt; "{} {count} {}", number_of(printed), digest(buffer));
+    let _ = rt.write_all(&buffer[..count]);
 }
 
 // The next case: the buffer's size, and the file.

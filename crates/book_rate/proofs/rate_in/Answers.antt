@@ -47,15 +47,16 @@ pub returns-then-place-ge-RATES : goal.returns-then-place-ge-RATES
 returns-then-place-ge-RATES c =
     full (placed (goal.at.returns-then-place-ge-RATES c).After-count_before-place) c.if-place-ge-RATES.true
 
-pub returns-in_default : goal.returns-in_default
-returns-in_default c =
-    over (placed (goal.at.returns-in_default c).After-count_before-place) c.if-place-ge-RATES.false _ c.replay.ensures _ c.in_default.is
+pub returns-in_err-after : goal.returns-in_err-after
+returns-in_err-after c =
+    let over = over (placed (goal.at.returns-in_err-after c).After-count_before-place) c.if-place-ge-RATES.false _ c.replay.ensures _ c.in_err-after.was in
+    search rules
 
 pub changes-answer-requires-clause-fits_after : goal.changes-answer-requires-clause-fits_after
 changes-answer-requires-clause-fits_after c =
-    fits_after (placed (goal.at.changes-answer-requires-clause-fits_after c).After-count_before-place) c.if-place-ge-RATES.false _ c.replay.ensures _ c.in-Ok.is
+    fits_after (placed (goal.at.changes-answer-requires-clause-fits_after c).After-count_before-place) c.if-place-ge-RATES.false _ c.replay.ensures _ c.in_ok-after.was
 
 pub returns : goal.returns
 returns c =
     rw c.changes-answer.ensures
-    (stands_revised (placed (goal.at.returns c).After-count_before-place) c.if-place-ge-RATES.false _ c.replay.ensures _ c.in-Ok.is)
+    (stands_revised (placed (goal.at.returns c).After-count_before-place) c.if-place-ge-RATES.false _ c.replay.ensures _ c.in_ok-after.was)

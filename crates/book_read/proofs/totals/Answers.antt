@@ -1,6 +1,5 @@
 -- Today is a date, as a right begins by 20991231 and has 6,000 days at most.
-use mathlib.Core.Path.{◌∙◌, ap}
-use mathlib.Core.Bool.{not}
+use Rattle.std.proofs.Common.{◌∙◌, ap, not}
 use Rattle.calendar.proofs.Callers.{sum_value}
 use Rattle.book_model.proofs.Callers.{is_sound, totals_open, today-counted}
 use Rattle.book_read.proofs.totals.Goals as goal

@@ -1,5 +1,6 @@
 -- A settlement that is not refused: the account is one, the portions are the parts of the cents, and the book is the settled one.
-use Rattle.std.proofs.Common.{arith, rules, refl, false, Err, is_le, nat_cmp, ◌≡◌, ℕ, ◌≤◌, ◌<◌, ◌++◌, List, Result, ◌-◌, length, length-take-le, drop, ap, ◌∙◌, Ok}
+use Rattle.std.proofs.Common.{arith, rules, false, Err, is_le, nat_cmp, ◌≡◌, ℕ, ◌≤◌, ◌<◌, ◌++◌, List, Result, ◌-◌, length, length-take-le, drop, ap, ◌∙◌, Ok, lt-ltb, le-ltb}
+use Rattle.std.proofs.lemmas.Bool.{lt-leb}
 use Rattle.std.specs.List.{sum}
 use Rattle.account.specs.Invariant.{Fits}
 use Rattle.account.specs.Accrual.{interest_of, paid_off, worth}
@@ -19,7 +20,6 @@ use Rattle.book_model.specs.Positions.{unit_days_column}
 use Rattle.book_model.specs.Settle.{settled, taken_of}
 use Rattle.book_model.proofs.Callers.{accepted, divided, parts-most, paid_by_parts, put-together, receipt_most}
 use Rattle.general_laws.proofs.Choice.{by_order}
-use borrow.Author.Tests.{lt-ltb, le-ltb, lt-leb}
 use Rattle.std.proofs.lemmas.Grind.{common_steps}
 use Rattle.std.proofs.lemmas.Bool.Decides.{nat_tests}
 use Rattle.book_model.specs.Advance.{last_settled}
@@ -39,7 +39,7 @@ module _ (c : Else-le) where
   in_range = fits c.args.book.now.today.0 c.args.book.now.account (omega (arith, known)) known.bounded
 
   amount : c.args.cents.0 ≤ 100000000000
-  amount = omega (arith, c.if-cents-gt-GREATEST_PAYMENT.false)
+  amount = grind (arith, common_steps)
 
   many : length (held c.args.book.now) ≡ c.args.book.now.count
   many = length-take-le c.args.book.now.count c.args.book.now.positions (omega (arith, c.requires.room-positions, known.positions-most))
@@ -71,18 +71,18 @@ paid_where r a m e x is = grind (arith, common_steps, nat_tests)
 over_where : (r : Result Account Unreckoned) (a : Account) (m : ℕ) → Fits a → r ≡ paid a m → (u : Unreckoned) → r ≡ Err u → worth a < m
 over_where r a m fit e u is = by_order (worth a) m (λ lt. lt) (λ le. absurd (let f = pays a m fit le in cc))
 
-pub returns-in_default : goal.returns-in_default
+pub returns-in_err-after : goal.returns-in_err-after
 unfolding settled
-returns-in_default c =
-    let past = (goal.at.returns-in_default c).Else-le in
+returns-in_err-after c =
+    let past = (goal.at.returns-in_err-after c).Else-le in
     let b = c.args.book.now in
-    let over = over_where c.pay.result b.account c.args.cents.0 (in_range past) c.pay.ensures _ c.in_default.is in
-    rw (c.if-not-book.false, le-ltb 100000000000 c.args.cents.0 (amount past), lt-leb 240 b.settled c.if-book-ge-SETTLEMENTS.false, lt-leb b.today.0 (last_settled b) (since past), lt-ltb (worth b.account) c.args.cents.0 over) refl
+    let over = over_where c.pay.result b.account c.args.cents.0 (in_range past) c.pay.ensures _ c.in_err-after.was in
+    rw (c.if-not-book.false, le-ltb 100000000000 c.args.cents.0 (amount past), lt-leb 240 b.settled c.if-book-ge-SETTLEMENTS.false, lt-leb b.today.0 (last_settled b) (since past), lt-ltb (worth b.account) c.args.cents.0 over) (search rules)
 
 pub unwrap-portions-requires : goal.unwrap-portions-requires
 unwrap-portions-requires c =
     let at = (goal.at.unwrap-portions-requires c).Else-le in
-    rw (c.apportion.ensures, c.weights_of-weights.ensures, parts at) (search rules)
+    rw (c.apportion.ensures, c.deref.ensures.0, c.weights_of-weights.ensures, parts at) (search rules)
 
 pub pay_out-requires-clause-receipts : goal.pay_out-requires-clause-receipts
 pay_out-requires-clause-receipts c = λ k. receipt_most c.args.book.now (known (goal.at.pay_out-requires-clause-receipts c).Else-le) k
@@ -97,7 +97,7 @@ module _ (c : After-apportion) (portions : List ℕ) (told : c.apportion.result 
   are : portions ≡ padded (length (unit_days_column (held c.args.book.now))) (part c.args.cents.0 (unit_days_column (held c.args.book.now)))
   are =
       one_value c.apportion.result _ portions
-      (c.apportion.ensures ∙ ap (apportioned c.args.cents.0) c.weights_of-weights.ensures ∙ parts (goal.at-After-apportion c).Else-le) told
+      (c.apportion.ensures ∙ ap (apportioned c.args.cents.0) (c.deref.ensures.0 ∙ c.weights_of-weights.ensures) ∙ parts (goal.at-After-apportion c).Else-le) told
 
 pub pay_out-requires-clause-portions_small : goal.pay_out-requires-clause-portions_small
 pay_out-requires-clause-portions_small c =
@@ -121,10 +121,10 @@ returns c =
     let past = at.Else-le in
     let b = c.args.book.now in
     let m = c.args.cents in
-    let is = paid_where c.pay.result b.account m.0 c.pay.ensures _ c.in-Ok.is in
+    let is = paid_where c.pay.result b.account m.0 c.pay.ensures _ c.in_ok-after.was in
     let right = accepted b m c.if-not-book.false (amount past) c.if-book-ge-SETTLEMENTS.false (since past) is.0 in
     let paid = c.pay_out.ensures ∙ paid_by_parts (held b) (some past) (few past) (days_some past) (days_most past) m.0 (amount past) c.unwrap-portions.result (are at.After-apportion c.unwrap-portions.result c.unwrap-portions.ensures) in
     made (settled b m) _ _
     (taken b m _ c.interest_of-interest.ensures ∙ ap (λ (o : Outcome Taken). o.answer) right)
-    (put-together b (omega (arith, c.requires.room-positions, (known past).positions-most)) m.0 _ c.in-Ok.after (ap (λ (ps : List Position). ps ++ drop b.count b.positions) paid)
+    (put-together b (omega (arith, c.requires.room-positions, (known past).positions-most)) m.0 _ c.in_ok-after.after (ap (λ (ps : List Position). ps ++ drop b.count b.positions) paid)
     is.1 ∙ ap (λ (o : Outcome Taken). o.book) right)

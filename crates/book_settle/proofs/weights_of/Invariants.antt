@@ -1,9 +1,8 @@
--- The weights before the place are the positions' unit-days, the others 0.
-use Rattle.std.proofs.Common.{◌≡◌, ◌≤◌, length, replicate}
-use Rattle.general_laws.proofs.Fronts.{filled}
+-- The weights of the positions passed so far are their unit-days.
+use Rattle.std.proofs.Common.{◌≡◌, take}
 use Rattle.book_model.specs.Positions.{unit_days_column}
 use Rattle.book_settle.proofs.weights_of.Given as goal
 
-abbrev pub invariant-loop-place : goal.invariant-loop-place
-invariant-loop-place l =
-    (l.place ≤ length l.held) × (l.weights ≡ filled (unit_days_column l.held) l.place (replicate 64 0))
+abbrev pub invariant-loop-position : goal.invariant-loop-position
+invariant-loop-position l =
+    l.weights.items ≡ take l.position-index (unit_days_column l.position-items)

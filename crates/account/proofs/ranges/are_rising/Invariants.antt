@@ -1,6 +1,5 @@
 -- The loop's invariant: what is left of the test from the order at hand is the test of all.
-use mathlib.Core.Path.{◌≡◌}
-use lib.ListN.{drop}
+use Rattle.std.proofs.Common.{◌≡◌, drop}
 use Rattle.account.specs.Ranges.{is_rising}
 use Rattle.account.proofs.ranges.are_rising.Given as goal
 

@@ -1,0 +1,10 @@
+-- The capped sum is the total where that is not above the cap.
+use Rattle.std.proofs.Common.{◌≡◌, ◌+◌, ◌∙◌, min, rules}
+use Rattle.std.specs.List.{fold}
+use Rattle.general_laws.proofs.Totals.{fold_capped}
+use Rattle.book_open.proofs.total_of.Goals as goal
+
+pub returns : goal.returns
+returns c =
+    let e : c.fold.result ≡ fold (λ s w. min (s + w) 18446744073709551615) 0 c.args.shares.now = search rules in
+    e ∙ fold_capped 18446744073709551615 c.args.shares.now
