@@ -16,7 +16,7 @@ pub struct Cases<'a> {
     pub at: usize,
 }
 
-// How many bytes stand before the first digit.
+// How many bytes stand before the first digit. One function for this and the next would be given the test, and be std's `take_while` again.
 fn skipped(text: &[u8]) -> usize
     ensures value { result ≡ skipped text.now }
     ensures within { result ≤ length text.now }

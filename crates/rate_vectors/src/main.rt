@@ -22,10 +22,7 @@ fn put_rate(rt: &impl Print, annual: u64) {
 }
 
 fn main(rt: HostRuntime) {
-    for annual in 0..=rates::GREATEST {
-        put_rate(&rt, annual);
-    }
-    for annual in REFUSED {
+    for annual in (0..=rates::GREATEST).chain(REFUSED) {
         put_rate(&rt, annual);
     }
 }

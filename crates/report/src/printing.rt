@@ -20,7 +20,8 @@ pub const POSITION_BYTES: usize = 47;
 const REFUSAL_BYTES: usize = 14;
 
 // The B line, at the front.
-// By `write_number`: the definitions say of any book what a column holds, of a number too wide its last digits, where `{:>15}` would write it whole.
+// By `write_number`: the definitions say of any book what a column holds, of a number too wide its last digits, where `{:>15}` would write it whole. Room for
+// a line is asked of a slice, here and below: an array of its bytes would be cut out by each caller.
 #[tactic(auto, using(crate::proofs::LineBytes::totals_stored))]
 pub fn put_totals(out: &mut [u8], totals: Totals)
     requires { 81 ≤ length out.old }
