@@ -11,7 +11,7 @@
  * A refusal leaves the written buffer as it was.
  * No pointer is kept after a call, and nothing is to be freed. Bytes that are read must not change during the call; several calls may read the
  * same ones. A call keeps no state, so that several threads may call at once, each with slots and written buffers of its own.
- * It takes no memory but the stack: as measured, at most 61 KiB for the first two functions, and 1 KiB for the others.
+ * It takes no memory but the stack: as measured, at most 14 KiB for the first two functions, and 1 KiB for the others.
  */
 #ifndef TABORUMBRA_H
 #define TABORUMBRA_H

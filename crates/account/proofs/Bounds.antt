@@ -35,11 +35,8 @@ product_bound d a low le = mul-le-mul le low
 
 -- the products of days at one rate fit
 
-pub whole_bound : (k d : ℕ) (a : Account) → k ≤ 6000 → d ≤ greatest_daily → Fits a → k * (a.outstanding.0 * d / 10000000000) ≤ 6000 * day_interest
-whole_bound k d a few low h =
-    let g = product_bound d a low h.principal in
-    let q : a.outstanding.0 * d / 10000000000 ≤ day_interest = omega arith in
-    mul-le-mul few q
+pub whole_bound : (k p : ℕ) → k ≤ 6000 → p ≤ 1000000000000 * greatest_daily → k * (p / 10000000000) ≤ 6000 * day_interest
+whole_bound k p few low = let q : p / 10000000000 ≤ day_interest = omega arith in mul-le-mul few q
 
 pub rest_bound : (k p : ℕ) → k ≤ 6000 → k * (p % 10000000000) ≤ 6000 * 10000000000
 rest_bound k p few = let r : p % 10000000000 ≤ 10000000000 = omega arith in mul-le-mul few r

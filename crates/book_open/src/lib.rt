@@ -1,12 +1,16 @@
 // Open (document 01): a right is recognised, with its holders and their shares.
 #![tactic(auto)]
 
-ghost use Rattle.std.specs.Prelude.{◌≡◌, ◌≤◌, min, ◌&&◌, ◌++◌, length, drop, sum, eqb, leb};
+ghost use Rattle.std.specs.Prelude.{◌≡◌, ◌≤◌, min, ◌&&◌, ◌++◌, false, true, length, drop, sum, eqb, leb};
+ghost use Rattle.std.specs.Result.{IfOk, IfErr};
 ghost use Rattle.std.specs.List.{list_all};
+ghost use Rattle.rates.specs.Rate.{daily_of};
+ghost use Rattle.book_model.specs.Book.{empty_book};
 ghost use Rattle.general_laws.specs.Members.{distinct};
 ghost use Rattle.book_model.specs.Called.{stated};
-ghost use Rattle.book_model.specs.Open.{is_share, is_term, is_recognised, is_financing, founded, opened};
-ghost use Rattle.book_model.specs.Outcome.{nothing, outcome};
+ghost use Rattle.book_model.specs.Invariant.{Sound};
+ghost use Rattle.book_model.specs.Open.{is_share, is_term, is_recognised, is_financing, founded, new_book, opened};
+ghost use Rattle.book_model.specs.Outcome.{nothing, accept, refuse, outcome};
 ghost use Rattle.book_model.specs.Positions.{is_holder};
 
 use book_model::{
@@ -99,11 +103,14 @@ fn place_holders(positions: &mut [Position], holders: &[u32], shares: &[u32])
     }
 }
 
-// On any book, reached or not: nothing is supposed of it. An open one is refused, and a new book stands in another's place.
-#[tactic(auto, unfolding(book_model::specs::Open::opened))]
-pub fn open_any_book(book: &mut Book, opening: Opening) -> Result<(), Refusal>
-    ensures { let o = opening.entry in
-        outcome nothing result book.new ≡ opened book.old o.first o.term o.annual o.cents o.holders.now o.shares.now }
+// Why a book refuses an opening, or the daily rate of one that it accepts.
+#[tactic(auto, using(rates::proofs::Callers::over_tells), unfolding(book_model::specs::Open::opened))]
+fn check_opening(book: &Book, opening: Opening) -> Result<u64, Refusal>
+    ensures refused { let o = opening.entry in
+        IfErr result (λ r. opened book.now o.first o.term o.annual o.cents o.holders.now o.shares.now ≡ refuse nothing book.now r) }
+    ensures accepted { let o = opening.entry in
+        IfOk result (λ daily. (daily ≡ daily_of o.annual) × (book.now.opened ≡ false) × (is_financing o.holders.now o.shares.now ≡ true)
+        × (opened book.now o.first o.term o.annual o.cents o.holders.now o.shares.now ≡ accept nothing (new_book o.first o.term o.annual o.cents o.holders.now o.shares.now))) }
 {
     if book.opened {
         return Err(Refusal::AlreadyOpen);
@@ -121,14 +128,22 @@ pub fn open_any_book(book: &mut Book, opening: Opening) -> Result<(), Refusal>
     if !is_financing(opening.holders, opening.shares) {
         return Err(Refusal::Financing);
     }
-    *book = Book {
-        opened: true,
-        first: opening.first,
-        term: opening.term,
-        recognised: opening.cents,
-        account: Account::opening(opening.cents),
-        ..Book::empty()
-    };
+    Ok(daily)
+}
+
+// Sets up a right in an empty book: what stays at 0 is not written anew.
+fn set_up(book: &mut Book, opening: Opening, daily: u64)
+    requires empty { book.old ≡ empty_book }
+    requires financing { is_financing opening.holders.now opening.shares.now ≡ true }
+    requires priced { daily ≡ daily_of opening.annual }
+    ensures { let o = opening.entry in
+        book.new ≡ new_book o.first o.term o.annual o.cents o.holders.now o.shares.now }
+{
+    book.opened = true;
+    book.first = opening.first;
+    book.term = opening.term;
+    book.recognised = opening.cents;
+    book.account = Account::opening(opening.cents);
     place_holders(&mut book.positions, opening.holders, opening.shares);
     book.count = opening.holders.len();
     book.rates[0] = RateOrder {
@@ -137,6 +152,28 @@ pub fn open_any_book(book: &mut Book, opening: Opening) -> Result<(), Refusal>
         daily,
     };
     book.rated = 1;
+}
+
+// On any book, reached or not: nothing is supposed of it. An open one is refused, and a new book stands in another's place.
+pub fn open_any_book(book: &mut Book, opening: Opening) -> Result<(), Refusal>
+    ensures { let o = opening.entry in
+        outcome nothing result book.new ≡ opened book.old o.first o.term o.annual o.cents o.holders.now o.shares.now }
+{
+    let daily = check_opening(book, opening)?;
+    *book = Book::empty();
+    set_up(book, opening, daily);
+    Ok(())
+}
+
+// On a sound book, which is empty where it isn't open. It is no call on a reached one itself: there the proof that the book is reached would stand at
+// each way out.
+fn open_in(book: &mut Book, opening: Opening) -> Result<(), Refusal>
+    requires { Sound book.old }
+    ensures { let o = opening.entry in
+        outcome nothing result book.new ≡ opened book.old o.first o.term o.annual o.cents o.holders.now o.shares.now }
+{
+    let daily = check_opening(book, opening)?;
+    set_up(book, opening, daily);
     Ok(())
 }
 
@@ -145,7 +182,7 @@ pub fn open_book_in_place(book: &mut ReachedBook, opening: Opening) -> Result<()
     ensures { let o = opening.entry in
         outcome nothing result book.new.book ≡ opened book.old.book o.first o.term o.annual o.cents o.holders.now o.shares.now }
 {
-    open_any_book(&mut book.book, opening)
+    open_in(&mut book.book, opening)
 }
 
 // By value, the form of every call. The closure holds the opening's parts: of one that holds a struct with a lifetime the check knows nothing.

@@ -53,21 +53,27 @@ fn rate_in(book: &mut Book, date: u32, annual: u64) -> Result<Revised, Refusal>
         return Err(Refusal::BookFull);
     }
     // The order replaces the stored rates from its first day on.
-    let mut rates = book.rates;
-    rates[place] = RateOrder {
+    let before = book.rates[place];
+    book.rates[place] = RateOrder {
         first: day,
         annual,
         daily,
     };
-    let after = account::replay(
+    let after = match account::replay(
         book.recognised,
-        &rates[..place + 1],
+        &book.rates[..place + 1],
         &book.settlements[..book.settled],
         book.today,
-    )?;
+    ) {
+        Ok(after) => after,
+        Err(unreckoned) => {
+            // A refused order is taken back.
+            book.rates[place] = before;
+            return Err(unreckoned.into());
+        }
+    };
     let answer = changes(book.account, after);
     book.account = after;
-    book.rates = rates;
     book.rated = place + 1;
     Ok(answer)
 }

@@ -32,7 +32,8 @@ pub extern "C" fn taborumbra_check(
     ensures end_after { end.new ≡ line_end file.now (load_of empty_book file.now).line }
     ensures count_after { count.new ≡ (load_of empty_book file.now).count }
 {
-    let answer = file::load(file, ReachedBook::empty()).answer;
+    let mut book = ReachedBook::empty();
+    let answer = file::load_in_place(file, &mut book);
     let bounds = file::part_bounds(file, answer);
     *line = file::line_named(answer);
     *start = bounds.start;

@@ -6,5 +6,5 @@ mod financing;
 mod loading;
 mod reading;
 
-pub use crate::loading::{load, part_bounds, refused_part};
+pub use crate::loading::{load, load_in_place, part_bounds, refused_part};
 pub use file_model::{LoadFault, LoadRefusal, line_named};

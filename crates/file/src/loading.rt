@@ -1,7 +1,7 @@
 // A file loaded on a book, and the part of the file that the answer names.
 ghost use Rattle.std.specs.Prelude.{◌≡◌, ◌≢◌, ◌-◌, ◌<◌, eqb, length};
 ghost use Rattle.lines.specs.Lines.{part_of};
-ghost use Rattle.file_model.specs.Load.{load_stated, load_of, part_start, part_end};
+ghost use Rattle.file_model.specs.Load.{answered, load_stated, load_of, part_start, part_end};
 ghost use Rattle.file.specs.Turns.{by_line, stopped, Ends, Moves, Opens, Obeys};
 
 use crate::financing::gather;
@@ -99,16 +99,24 @@ fn load_lines(file: &[u8], book: &mut ReachedBook) -> Result<usize, LoadFault>
     Err(lines.next_fault(LoadRefusal::Unfinished))
 }
 
-// Loads a file, all or nothing: a refused load gives back the book that came in.
+// Loads a file on a book that the caller keeps, all or nothing: a refused load leaves the book as it was. The lines change a copy, so that an accepted load
+// copies twice and a refused one once; the other way round was slower.
+pub fn load_in_place(file: &[u8], book: &mut ReachedBook) -> Result<usize, LoadFault>
+    ensures { answered result book.new.book ≡ load_of book.old.book file.now }
+{
+    let mut after = *book;
+    let answer = load_lines(file, &mut after);
+    if answer.is_ok() {
+        *book = after;
+    }
+    answer
+}
+
+// The same by value.
 pub fn load(file: &[u8], book: ReachedBook) -> Called<usize, LoadFault>
     ensures { load_stated result ≡ load_of book.book file.now }
 {
-    let mut after = book;
-    let answer = load_lines(file, &mut after);
-    Called {
-        answer,
-        book: if answer.is_ok() { after } else { book },
-    }
+    book.call(|book| load_in_place(file, book))
 }
 
 // Where the part begins and ends that an answer names: the refused line, or the empty part at the file's end. File and answer stay apart, as callers

@@ -1,5 +1,5 @@
 -- A field read column by column, as a part of a longer list, and behind the spaces in front of it.
-use Rattle.std.proofs.Common.{◌≡◌, refl, sym, ap, ◌∙◌, List, arith, cond, not, true≢false, ℕ, zero, suc, ◌+◌, ◌-◌, ◌*◌, ◌^◌, ◌≤◌, ◌<◌, add-zero, add-suc, zero-add, add-one, eqb, eqb-true, eq-eqb, get_or-drop, length, get_or, take, drop, length-drop}
+use Rattle.std.proofs.Common.{◌≡◌, refl, sym, ap, ◌∙◌, ◌&&◌, List, arith, cond, not, false, true≢false, ℕ, zero, suc, ◌+◌, ◌-◌, ◌*◌, ◌^◌, ◌≤◌, ◌<◌, add-zero, add-suc, zero-add, add-one, eqb, eqb-true, eq-eqb, get_or-drop, length, get_or, take, drop, length-drop}
 use Rattle.std.proofs.Math.Nat.{one-le-pow}
 use Rattle.std.proofs.Math.Seq.{take-length}
 use Rattle.std.specs.Prelude.{Some, None, position}
@@ -10,6 +10,7 @@ use Rattle.std.proofs.lemmas.Grind.{common_steps}
 use Rattle.std.proofs.lemmas.List.{take_rest}
 use Rattle.std.proofs.lemmas.List.Quantifiers.{position-Some}
 use Rattle.std.proofs.lemmas.List.Sums.{fails_before_first}
+use Rattle.line.specs.Line.{proper}
 use Rattle.line.specs.Field.{Field, blank, number, bad, step_of, field_at}
 use Rattle.line.proofs.FieldBounds.{Below, field_below_wider}
 use Rattle.line.proofs.FieldRoundTrip.{columns, field_columns}
@@ -41,6 +42,11 @@ module _ (s : List ℕ) (at : ℕ) where
   bad_stays i w h e =
       let m : i + (w - i) ≡ w = omega arith in
       rw m at (bad_further i (w - i) e)
+
+-- a column more of an unused field is a space
+pub unused_further : (s : List ℕ) (i : ℕ) → proper false (field_at s 0 (i + 1)) ≡ (proper false (field_at s 0 i) && eqb (get_or s i 0) 32)
+unfolding field_at
+unused_further s i = grind (arith, nat_tests)
 
 -- The columns of a list
 

@@ -1,8 +1,9 @@
 // A number field of fixed width, read column by column from the left and written from the right.
-ghost use Rattle.std.specs.Prelude.{◌≡◌, ◌≤◌, ◌^◌, ◌<◌, length, get_or, not, eqb, position, IfOk};
+ghost use Rattle.std.specs.Prelude.{◌≡◌, false, ◌≤◌, ◌^◌, ◌<◌, length, get_or, not, eqb, position, IfOk};
 ghost use Rattle.line.specs.Field.{space, field_at, symbol_of, justified};
 ghost use Rattle.line.specs.Write.{field_bytes};
 ghost use Rattle.line.specs.FieldUse.{used_number, filled_field};
+ghost use Rattle.line.specs.Line.{proper};
 
 use crate::Malformed;
 
@@ -36,28 +37,34 @@ pub fn read_digits(digits: &[u8]) -> Result<u64, Malformed>
     Ok(n)
 }
 
-// The field of its columns: None where all are spaces, else its number.
-#[tactic(auto, using(crate::proofs::FieldReading::filled_first, crate::proofs::FieldReading::filled_nowhere))]
-pub fn read_field(columns: &[u8]) -> Result<Option<u64>, Malformed>
-    requires { length columns.now ≤ 18 }
-    ensures { result ≡ field_at columns.now 0 (length columns.now) }
+// Whether the columns are those of an unused field, which is all spaces. The loop runs to the end whatever it meets, so that the compiler can compare
+// several columns at once.
+#[tactic(auto, using(crate::proofs::FieldReading::unused_further), unfolding(crate::specs::Field::field_at))]
+fn is_unused(columns: &[u8]) -> bool
+    ensures { result ≡ proper false (field_at columns.now 0 (length columns.now)) }
 {
-    first_filled(columns)
-        .map(|first| read_digits(&columns[first..]))
-        .transpose()
+    let mut unused = true;
+    for &column in columns {
+        unused &= column == b' ';
+    }
+    unused
 }
 
-// The number of a used field, or 0 of an unused one, which is all spaces.
-#[tactic(auto, using(crate::proofs::FieldBounds::number_below, crate::proofs::FieldBounds::some_below))]
+// The number of a used field, or 0 of an unused one. Compiled into `read_line`, where the width of each field is known.
+#[tactic(auto, using(crate::proofs::FieldReading::filled_first, crate::proofs::FieldReading::filled_nowhere, crate::proofs::FieldBounds::number_below, crate::proofs::FieldBounds::some_below))]
+#[inline(always)]
 pub fn read_number(columns: &[u8], used: bool) -> Result<u64, Malformed>
     requires { length columns.now ≤ 18 }
     ensures value { result ≡ used_number used (field_at columns.now 0 (length columns.now)) }
     ensures below { IfOk result (λ n. n < 10 ^ length columns.now) }
 {
-    match read_field(columns)? {
-        Some(n) if used => Ok(n),
-        None if !used => Ok(0),
-        _ => Err(Malformed),
+    if used {
+        let first = first_filled(columns).ok_or(Malformed)?;
+        read_digits(&columns[first..])
+    } else if is_unused(columns) {
+        Ok(0)
+    } else {
+        Err(Malformed)
     }
 }
 

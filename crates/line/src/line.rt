@@ -48,8 +48,10 @@ pub fn uses_for(letter: u8) -> Option<Uses>
     }
 }
 
-// Any bytes: the fields of a well-formed line, or that it is malformed. Numbers of up to nine columns fit 32 bits.
+// Any bytes: the fields of a well-formed line, or that it is malformed. Numbers of up to nine columns fit 32 bits. Compiled into its callers, so that
+// fields are handed over in registers.
 #[tactic(auto, using(crate::proofs::LineReading::line_read), unfolding(crate::specs::Line::line_of))]
+#[inline(always)]
 pub fn read_line(line: &[u8]) -> Result<Fields, Malformed>
     ensures { read_stated result ≡ line_of line.now }
 {

@@ -94,9 +94,9 @@ pub fn put_book(out: &mut [u8; BYTES], book: &ReachedBook) -> usize
 fn put_report(out: &mut [u8; BYTES], file: &[u8]) -> usize
     ensures { (result ≡ length (statement_of file.now)) × (out.new ≡ statement_of file.now ++ drop (length (statement_of file.now)) out.old) }
 {
-    let loaded = file::load(file, ReachedBook::empty());
-    match loaded.answer {
-        Ok(_) => put_book(out, &loaded.book),
+    let mut book = ReachedBook::empty();
+    match file::load_in_place(file, &mut book) {
+        Ok(_) => put_book(out, &book),
         Err(fault) => {
             put_refusal(out, fault.number(), fault.line);
             REFUSAL_BYTES

@@ -1,5 +1,6 @@
 -- The refusals in the order of the paper's table, and the replayed account where no test stops the call.
 use Rattle.std.proofs.Common.{rules, arith, ◌≡◌, ap, ◌∙◌, ℕ, false, ◌&&◌, leb, ◌+◌}
+use Rattle.std.proofs.lemmas.List.{set-set, set-get_or}
 use Rattle.calendar.proofs.Callers.{count-date, day_tells, laws}
 use Rattle.rates.proofs.Callers.{daily_tells, over_tells}
 use Rattle.book_model.specs.Rate.{rated}
@@ -47,16 +48,16 @@ pub returns-then-place-ge-RATES : goal.returns-then-place-ge-RATES
 returns-then-place-ge-RATES c =
     full (placed (goal.at.returns-then-place-ge-RATES c).After-count_before-place) c.if-place-ge-RATES.true
 
-pub returns-in_err-after : goal.returns-in_err-after
-returns-in_err-after c =
-    let over = over (placed (goal.at.returns-in_err-after c).After-count_before-place) c.if-place-ge-RATES.false _ c.replay.ensures _ c.in_err-after.was in
-    search rules
+pub returns-in-Err : goal.returns-in-Err
+returns-in-Err c =
+    let over = over (placed (goal.at.returns-in-Err c).After-count_before-place) c.if-place-ge-RATES.false _ c.replay.ensures _ c.in-Err.is in
+    search (rules, set-set, set-get_or)
 
 pub changes-answer-requires-clause-fits_after : goal.changes-answer-requires-clause-fits_after
 changes-answer-requires-clause-fits_after c =
-    fits_after (placed (goal.at.changes-answer-requires-clause-fits_after c).After-count_before-place) c.if-place-ge-RATES.false _ c.replay.ensures _ c.in_ok-after.was
+    fits_after (placed (goal.at.changes-answer-requires-clause-fits_after c).After-count_before-place) c.if-place-ge-RATES.false _ c.replay.ensures _ c.in-Ok.is
 
 pub returns : goal.returns
 returns c =
     rw c.changes-answer.ensures
-    (stands_revised (placed (goal.at.returns c).After-count_before-place) c.if-place-ge-RATES.false _ c.replay.ensures _ c.in_ok-after.was)
+    (stands_revised (placed (goal.at.returns c).After-count_before-place) c.if-place-ge-RATES.false _ c.replay.ensures _ c.in-Ok.is)
