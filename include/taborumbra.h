@@ -1,7 +1,7 @@
-/* The collection-rights book for C and C++: the exported functions of libcapi.a.
+/* The collection-rights book for C and C++: the exported functions of libtaborumbra.a.
  *
- * For x86-64 with the System V calling convention (Linux, ELF). Link libcapi.a with the program; of other libraries it needs only memcpy and
- * memset. The code is position-independent.
+ * For x86-64 with the System V calling convention (Linux, ELF). Link libtaborumbra.a with the program; of other libraries it needs only memcpy
+ * and memset. The code is position-independent.
  *
  * Every function answers the number of the table below, 0 for accepted. All checking is inside: each call ends, whatever bytes and numbers it gets.
  *
@@ -22,6 +22,11 @@
 #ifdef __cplusplus
 extern "C" {
 #endif
+
+/* The library's version: each change that a user sees raises the second number; CHANGELOG.md tells what it brought. */
+#define TABORUMBRA_VERSION_MAJOR 0
+#define TABORUMBRA_VERSION_MINOR 4
+#define TABORUMBRA_VERSION "0.4"
 
 /* Why a call or a file is refused, by trade word. The lowest number that applies is told; in a file, the first fault. */
 enum taborumbra_number {
@@ -60,10 +65,10 @@ enum taborumbra_number {
 uint32_t taborumbra_check(const uint8_t *file, size_t file_bytes, size_t *line, size_t *start, size_t *end, size_t *count);
 
 /* Writes the statement of an order file, loaded on an empty book, at out's start. The file is taken whole here too.
- * 0: length is the statement's, and bytes of out behind it are left as they were. A refused file's statement is its X line, with 0 here too; a
- * file that leaves the book empty has a statement of length 0.
- * 21: out_bytes is under TABORUMBRA_STATEMENT_BYTES; length 0, out as it was. */
-uint32_t taborumbra_statement(const uint8_t *file, size_t file_bytes, uint8_t *out, size_t out_bytes, size_t *length);
+ * 0: statement_bytes is its count of bytes, and bytes of out behind it are left as they were. A refused file's statement is its X line, with 0 here
+ * too; a file that leaves the book empty has a statement of 0 bytes.
+ * 21: out_bytes is under TABORUMBRA_STATEMENT_BYTES; statement_bytes 0, out as it was. */
+uint32_t taborumbra_statement(const uint8_t *file, size_t file_bytes, uint8_t *out, size_t out_bytes, size_t *statement_bytes);
 
 /* The fields of a line. O: date, first term, second rate, third cents. F: first holder, third share. D: date. R: date, third rate. T: first cedent,
  * second assignee, third parts. S: third cents. E: third the lines before it. The letter is its ASCII byte. A field that it doesn't use is 0. */

@@ -1,6 +1,6 @@
 /* Calls the six functions of include/taborumbra.h from C. What is expected is written from documents 01 and 02 and the header.
  *
- * tools/examples builds and runs it. It prints a line for each check that failed, and last the counts. */
+ * tools/examples builds it with target/staticlib/libtaborumbra.a and runs it. It prints a line for each check that failed, and last the counts. */
 #include <stdio.h>
 #include <string.h>
 
@@ -140,9 +140,9 @@ static void try_statement(const char *file, size_t bytes, size_t out_bytes, uint
 {
     uint8_t out[TABORUMBRA_STATEMENT_BYTES + 100];
     memset(out, BEFORE, sizeof out);
-    size_t length = BEFORE;
-    equal(taborumbra_statement((const uint8_t *)file, bytes, out, out_bytes, &length), number, "statement, number");
-    equal(length, strlen(text), "statement, length");
+    size_t statement_bytes = BEFORE;
+    equal(taborumbra_statement((const uint8_t *)file, bytes, out, out_bytes, &statement_bytes), number, "statement, number");
+    equal(statement_bytes, strlen(text), "statement, bytes");
     holds_text(out, sizeof out, text, "statement, buffer");
 }
 
@@ -164,18 +164,26 @@ static void try_null(void)
     const uint64_t nothing[5] = {0};
     try_check(NULL, 0, TABORUMBRA_EMPTY_FILE, (size_t[]){1, 0, 0, 0});
     try_statement(NULL, 0, TABORUMBRA_STATEMENT_BYTES, 0, "X 20        1\n");
-    size_t length = BEFORE;
-    equal(taborumbra_statement((const uint8_t *)paper, strlen(paper), NULL, 0, &length), TABORUMBRA_LINE, "statement into NULL, number");
-    equal(length, 0, "statement into NULL, length");
-    length = BEFORE;
-    equal(taborumbra_statement(NULL, 0, NULL, 0, &length), TABORUMBRA_LINE, "statement of NULL into NULL, number");
-    equal(length, 0, "statement of NULL into NULL, length");
+    size_t statement_bytes = BEFORE;
+    equal(taborumbra_statement((const uint8_t *)paper, strlen(paper), NULL, 0, &statement_bytes), TABORUMBRA_LINE, "statement into NULL, number");
+    equal(statement_bytes, 0, "statement into NULL, bytes");
+    statement_bytes = BEFORE;
+    equal(taborumbra_statement(NULL, 0, NULL, 0, &statement_bytes), TABORUMBRA_LINE, "statement of NULL into NULL, number");
+    equal(statement_bytes, 0, "statement of NULL into NULL, bytes");
     try_read_line(NULL, 0, TABORUMBRA_LINE, nothing);
     equal(taborumbra_write_line('D', 20140111, 0, 0, 0, NULL, 0), TABORUMBRA_LINE, "write_line into NULL, number");
 }
 
+static void try_version(void)
+{
+    char text[20];
+    snprintf(text, sizeof text, "%d.%d", TABORUMBRA_VERSION_MAJOR, TABORUMBRA_VERSION_MINOR);
+    judge(strcmp(text, TABORUMBRA_VERSION) == 0, "the version's text isn't its numbers");
+}
+
 int main(void)
 {
+    try_version();
     try_plus_days(20140101, 5479, 0, 20290101);
     try_plus_days(20140230, 1, TABORUMBRA_DATE, 0);
     try_plus_days(21991231, 1, TABORUMBRA_DATE, 0);

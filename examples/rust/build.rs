@@ -3,7 +3,7 @@
 fn main() {
     let here = std::env::var("CARGO_MANIFEST_DIR").expect("cargo tells the crate's folder");
     let folder = format!("{here}/../../target/staticlib");
-    println!("cargo:rerun-if-changed={folder}/libcapi.a");
+    println!("cargo:rerun-if-changed={folder}/libtaborumbra.a");
     println!("cargo:rustc-link-search=native={folder}");
-    println!("cargo:rustc-link-lib=static=capi");
+    println!("cargo:rustc-link-lib=static=taborumbra");
 }

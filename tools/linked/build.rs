@@ -3,7 +3,7 @@
 use std::env;
 use std::path::Path;
 
-const ARCHIVE: &str = "target/staticlib/libcapi.a";
+const ARCHIVE: &str = "target/staticlib/libtaborumbra.a";
 
 fn main() {
     let crate_folder = env::var("CARGO_MANIFEST_DIR").expect("cargo tells the crate's folder");
@@ -16,5 +16,5 @@ fn main() {
     }
     let folder = archive.parent().expect("a folder");
     println!("cargo:rustc-link-search=native={}", folder.display());
-    println!("cargo:rustc-link-lib=static=capi");
+    println!("cargo:rustc-link-lib=static=taborumbra");
 }

@@ -124,6 +124,9 @@ def turn(text, parts, whole, rt, below):
 
 
 def main():
+    if sys.argv[1:] not in ([], ["--list"]):
+        print("usage: tools/port/spell.py [--list]", file=sys.stderr)
+        sys.exit(2)
     parts, whole, together = table()
     for name, sources in sorted(together.items()):
         print("the same name:", name, "of", ", ".join(sorted(sources)))

@@ -1,5 +1,5 @@
 -- The laws of the division.
-use Rattle.std.proofs.Common.{ℕ, ◌+◌, ◌-◌, ◌*◌, ◌≤◌, ◌<◌, arith, mod-lt, mul-add, mul_comm, mul-zero, ◌≡◌, sym, ap, ◌∙◌, true, cond, List, [], ◌∷◌, ltb, length, ltb-true, lt-ltb, le-ltb}
+use Rattle.std.proofs.Common.{ℕ, ◌+◌, ◌-◌, ◌*◌, ◌≤◌, ◌<◌, arith, mod-lt, mul-add, mul_comm, mul-zero, ◌≡◌, sym, ap, ◌∙◌, ◌⊎◌, inl, inr, true, false, cond, List, [], ◌∷◌, ltb, length, ltb-true, ltb-false, lt-ltb, le-ltb}
 use Rattle.std.proofs.Math.Nat.{div-add-mod, zero-div, zero-mod, le_of_mul-le-mul_left, lt_of_mul-lt-mul_left}
 use Rattle.std.specs.List.{sum}
 use Rattle.general_laws.specs.Sums.{sum_below, count_below}
@@ -9,7 +9,7 @@ use Rattle.general_laws.proofs.Totals.{sum-total}
 use Rattle.general_laws.proofs.Sums.{sum_same, sum_le, sum_lt, sum-add, sum_scale, sum_constant, sum_prefix}
 use Rattle.apportionment.specs.Apportionment.{weight, total_weight, quotient, remainder, leftover, comes_before, rank, gets_extra, extra, part}
 use Rattle.apportionment.specs.Laws.{Laws}
-use Rattle.apportionment.proofs.Ranks.{greater_before, exactly}
+use Rattle.apportionment.proofs.Ranks.{greater_before, earlier_before, rank_least, exactly}
 
 module _ (m : ℕ) (ws : List ℕ) (some : 0 < total_weight ws) where
   -- W × quotient + remainder
@@ -123,6 +123,31 @@ pub part-most : (m : ℕ) (ws : List ℕ) (k : ℕ) → part m ws k ≤ quotient
 unfolding part
 part-most m ws k = let b = bit_most (gets_extra m ws k) in omega arith
 
+pub greatest_first : (m : ℕ) (ws : List ℕ) (j k : ℕ) → gets_extra m ws j ≡ true → gets_extra m ws k ≡ false
+    → (remainder m ws k < remainder m ws j) ⊎ ((remainder m ws j ≡ remainder m ws k) × (j < k))
+unfolding gets_extra
+greatest_first m ws j k has without =
+    by_order (r k) (r j) inl λ le.
+    by_order (r j) (r k) (λ lt. absurd (not-before (greater_before r k j lt))) λ ge.
+    by_order j k (λ earlier. inr (omega arith, earlier)) λ later.
+    by_order k j (λ lt. absurd (not-before (earlier_before r k j lt (omega arith)))) λ same.
+    absurd (ranks (ap (rank r (length ws)) (let e : k ≡ j = omega arith in e)))
+  where
+    r : ℕ → ℕ
+    r = remainder m ws
+
+    within : rank r (length ws) j < leftover m ws
+    within = ltb-true _ _ has
+
+    beyond : leftover m ws ≤ rank r (length ws) k
+    beyond = ltb-false _ _ without
+
+    ranks : rank r (length ws) k ≡ rank r (length ws) j → ⊥
+    ranks e = omega (arith, within, beyond)
+
+    not-before : comes_before r k j ≡ true → ⊥
+    not-before t = let least = rank_least r (length ws) k j t in omega (arith, within, beyond)
+
 pub laws : Laws
 laws m ws some =
     record {
@@ -130,6 +155,7 @@ laws m ws some =
       part_least = part_least m ws;
       part-most = part-most m ws;
       extras_count = extras_count m ws some;
+      greatest_first = greatest_first m ws;
       division = λ k. sym (division m ws some k);
       remainder_small = remainder_small m ws some;
       part_exact = part_exact m ws some;

@@ -1,5 +1,5 @@
 -- What callers may rely on of a division of m by the weights ws, not all of them 0.
-use Rattle.std.specs.Prelude.{ℕ, ◌+◌, ◌-◌, ◌*◌, ◌≤◌, ◌<◌, ◌≡◌, List, length}
+use Rattle.std.specs.Prelude.{ℕ, ◌+◌, ◌-◌, ◌*◌, ◌≤◌, ◌<◌, ◌≡◌, ◌⊎◌, true, false, List, length}
 use Rattle.general_laws.specs.Sums.{sum_below, count_below}
 use Rattle.apportionment.specs.Apportionment.{weight, total_weight, quotient, remainder, leftover, gets_extra, extra, part}
 
@@ -11,6 +11,9 @@ pub record LawsOf (m : ℕ) (ws : List ℕ) : Type 0 where
   pub part-most : (k : ℕ) → part m ws k ≤ quotient m ws k + 1
   -- exactly L parts are one more
   pub extras_count : count_below (length ws) (gets_extra m ws) ≡ leftover m ws
+  -- and those are the greatest remainders: a position with a leftover unit has a greater one than a position without, or the same and stands earlier
+  pub greatest_first : (j k : ℕ) → gets_extra m ws j ≡ true → gets_extra m ws k ≡ false
+      → (remainder m ws k < remainder m ws j) ⊎ ((remainder m ws j ≡ remainder m ws k) × (j < k))
   -- M × w is W × quotient plus the remainder, which is below W
   pub division : (k : ℕ) → m * weight ws k ≡ total_weight ws * quotient m ws k + remainder m ws k
   pub remainder_small : (k : ℕ) → remainder m ws k < total_weight ws

@@ -1,3 +1,3 @@
 -- What the proof of an advance cites.
-pub mod Held
-pub mod Passed
+mod Held
+mod Passed

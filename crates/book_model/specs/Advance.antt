@@ -29,7 +29,7 @@ days_passed (suc n) b = day_passed (days_passed n b)
 abbrev pub count_of_day : Book → ℕ → ℕ
 count_of_day b day = day_count b.first + day
 
--- to the date of a day count
+-- to the date of a day count. "The term's end is day 0 plus the term."
 unfoldable pub advanced_to : Book → ℕ → Outcome Day
 advanced_to b count =
     -- 8: "not after today, or after the term's end"
@@ -41,6 +41,7 @@ advanced_to b count =
 
 unfoldable pub advanced : Book → ℕ → Outcome Day
 advanced b date =
+    -- 1: "any book call but Open, on an empty book"
     cond (not b.opened) (refuse no_days b refusal.Unopened)
     (cond (not (is_date date)) (refuse no_days b refusal.Date)
     (advanced_to b (day_count date)))

@@ -55,12 +55,17 @@ new_book first term annual cents hs ss =
       rates = set empty_book.rates 0 (order_from 0 annual);
     }
 
+-- "Lowest applicable number first"
 unfoldable pub opened : Book → ℕ → Day → ℕ → Cents → List ℕ → List ℕ → Outcome (Unit {0})
 opened b first term annual cents hs ss =
+    -- 2: "Open on an open book"
     cond b.opened (refuse nothing b refusal.AlreadyOpen)
+    -- 3: "not a date as above"
     (cond (not (is_date first)) (refuse nothing b refusal.Date)
     (cond (not (is_term first term.0)) (refuse nothing b refusal.Term)
     (cond (not (is_recognised cents.0)) (refuse nothing b refusal.Amount)
+    -- 6: "over 4,000"
     (cond (ltb 4000 annual) (refuse nothing b refusal.Rate)
     (cond (not (is_financing hs ss)) (refuse nothing b refusal.Financing)
+    -- "Answers nothing beyond its number."
     (accept nothing (new_book first term annual cents hs ss)))))))

@@ -48,7 +48,7 @@ changes_of before after =
     }
 
 -- an order that meets the conditions before 14. "Outstanding, interest due, fraction and both paid totals become what they'd be had these rates
--- held from the start, with the same settlements on the same days."
+-- held from the start, with the same settlements on the same days." "(003: regularisation counts the sums received and their dates.)"
 unfoldable pub revised : Book → RateOrder → Outcome Revised
 revised b o =
     -- 14: "some past settlement would be so under the new rates"

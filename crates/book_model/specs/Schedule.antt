@@ -4,7 +4,8 @@ use Rattle.rates.specs.Rate.{daily_of}
 use Rattle.account.specs.declared.RateOrder.{RateOrder}
 use Rattle.account.specs.Schedule.{in_force}
 
--- the 0 is never met: a rate from day 0 is always stored
+-- "The rate in force on a day is that of the latest accepted order (opening included) whose first day is not after it". The 0 is never met: a rate from
+-- day 0 is always stored
 abbrev pub annual_on : List RateOrder → ℕ → ℕ
 annual_on orders day = in_force (λ (o : RateOrder). o.annual) 0 orders day
 

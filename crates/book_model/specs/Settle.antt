@@ -1,4 +1,4 @@
--- Settle M cents, today (document 01).
+-- Settle (document 01): "Settle M cents, today; M may be 0."
 use Rattle.std.specs.Prelude.{ℕ, cond, not, leb, ltb}
 use Rattle.apportionment.specs.Apportionment.{part}
 use Rattle.book_model.specs.declared.Book.{Book}

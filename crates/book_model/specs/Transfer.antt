@@ -7,7 +7,7 @@ use Rattle.book_model.specs.Book.{held, with_held}
 use Rattle.book_model.specs.Outcome.{Outcome, no_parts, accept, refuse}
 use Rattle.book_model.specs.Positions.{is_holder, present, share_of, change, less, given}
 
--- between two holders, the cedent in the book
+-- between two holders, the cedent in the book. "Today's unit-days are the assignee's": shares move now, and Advance counts today by the shares of today
 unfoldable pub moved : Book → ℕ → ℕ → ℕ → Outcome Parts
 moved b c a n =
     -- 11: "0 or more than the cedent holds"

@@ -38,7 +38,9 @@ pub struct Position {
     pub received: Cents,
 }
 
-// One collection right, or none. The first day is a date; positions stand in order of first appearance. The lists are arrays with counts beside them,
+// One collection right, or none. "It holds first day, term and today; the positions (holder number, share, unit-days, cash received) in order of first
+// appearance; the outstanding principal; interest due in cents and a fraction below 10^10; principal and interest paid; settlements (day, cents); and
+// rates (first day, i)." "The book carries its settlements and rates with it, by value." The first day is a date. The lists are arrays with counts beside them,
 // as document 01 names that form: a book holds everything by value and is copied, which an ArrayVec isn't. `opened` is a flag beside the figures:
 // theorems read the figures of any book, and those of an empty one are zeros. Each call and reader tests it by one `if`.
 #[derive(Clone, Copy)]
@@ -151,7 +153,8 @@ impl Position {
 }
 
 impl Book {
-    // The most positions, settlements and stored rates, and the most days from one settlement to the next.
+    // "An empty book is the same for every caller, and its limits belong to it.": the most positions, settlements and stored rates, and the most days
+    // from one settlement to the next.
     pub const POSITIONS: usize = apportionment::POSITIONS;
 
     pub const SETTLEMENTS: usize = Account::SETTLEMENTS;

@@ -1,2 +1,2 @@
 -- What the readers' proofs cite.
-pub mod Held
+mod Held

@@ -1,2 +1,2 @@
 -- What the proofs of this crate cite.
-pub mod LastDay
+mod LastDay

@@ -1,2 +1,2 @@
 -- What the proof of a transfer cites.
-pub mod Found
+mod Found

@@ -9,7 +9,7 @@ use cases::Cases;
 use std::io;
 
 // The most bytes of the input.
-const INPUT: usize = 65536;
+const INPUT: usize = 131072;
 
 // The most numbers that a list of the input has.
 const LISTED: usize = 70;

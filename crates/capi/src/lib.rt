@@ -7,8 +7,7 @@ ghost use Rattle.book_model.specs.Book.{empty_book};
 ghost use Rattle.calendar.specs.Answers.{sum_of};
 ghost use Rattle.line.specs.Line.{line_of};
 ghost use Rattle.line.specs.Write.{written_of};
-ghost use Rattle.lines.specs.Lines.{line_start, line_end};
-ghost use Rattle.file_model.specs.Load.{load_of};
+ghost use Rattle.file_model.specs.Load.{load_of, part_start, part_end};
 ghost use Rattle.rates.specs.Rate.{rate_of};
 ghost use Rattle.report.specs.Statement.{report_of};
 
@@ -16,8 +15,7 @@ use answers::number_of;
 use book::ReachedBook;
 use line::Fields;
 
-// Loads a file on the empty book: the refused line's number, where it starts and ends in the file, and the count of the lines before E.
-#[tactic(auto, unfolding(file_model::specs::Load::part_start, file_model::specs::Load::part_end))]
+// Loads a file on the empty book: the refused line's number, where the part that it shows starts and ends in the file, and the count of the lines before E.
 #[unsafe(no_mangle)]
 pub extern "C" fn taborumbra_check(
     file: &[u8],
@@ -28,8 +26,8 @@ pub extern "C" fn taborumbra_check(
 ) -> u32
     ensures value { result ≡ (load_of empty_book file.now).number }
     ensures line_after { line.new ≡ (load_of empty_book file.now).line }
-    ensures start_after { start.new ≡ line_start file.now (load_of empty_book file.now).line }
-    ensures end_after { end.new ≡ line_end file.now (load_of empty_book file.now).line }
+    ensures start_after { start.new ≡ part_start file.now (load_of empty_book file.now).number (load_of empty_book file.now).line }
+    ensures end_after { end.new ≡ part_end file.now (load_of empty_book file.now).number (load_of empty_book file.now).line }
     ensures count_after { count.new ≡ (load_of empty_book file.now).count }
 {
     let mut book = ReachedBook::empty();
@@ -45,13 +43,17 @@ pub extern "C" fn taborumbra_check(
 // The statement of a file at a buffer's start, and its length; a refused file's is its X line, answered with 0 too. A buffer under
 // `report::BYTES` is answered with 21 and left as it was.
 #[unsafe(no_mangle)]
-pub extern "C" fn taborumbra_statement(file: &[u8], out: &mut [u8], length: &mut usize) -> u32
+pub extern "C" fn taborumbra_statement(
+    file: &[u8],
+    out: &mut [u8],
+    statement_bytes: &mut usize,
+) -> u32
     ensures value { result ≡ (report_of file.now out.old).0.0 }
-    ensures length_after { length.new ≡ (report_of file.now out.old).0.1 }
+    ensures bytes_after { statement_bytes.new ≡ (report_of file.now out.old).0.1 }
     ensures out_after { out.new ≡ (report_of file.now out.old).1 }
 {
     let printed = report::report(file, out);
-    *length = printed.unwrap_or(0);
+    *statement_bytes = printed.unwrap_or(0);
     number_of(printed)
 }
 

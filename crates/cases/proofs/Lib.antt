@@ -1,3 +1,3 @@
 -- Facts about the definitions, which the code's proofs cite.
-pub mod Steps
-pub mod FilledBytes
+mod Steps
+mod FilledBytes

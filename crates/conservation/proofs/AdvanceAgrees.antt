@@ -8,9 +8,9 @@ use Rattle.book_model.specs.Advance.{days_passed}
 use Rattle.book_model.specs.Closed.{days_held}
 use Rattle.book_model.specs.Invariant.{OpenSound, Sound}
 use Rattle.book_model.specs.Call.{Opening}
-use Rattle.conservation.specs.Tally.{Tally, advance, day_of_date, share_today, share_days, last_before, weight, portion_on, received}
+use Rattle.conservation.specs.Tally.{Tally, advance, day_of_date, share_today, share_days, last_before, weight, portion_on, received, unit_days_of}
 use Rattle.book_model.proofs.Callers.{AdvanceRight, days_to, AdvanceStep, advance_step}
-use Rattle.conservation.proofs.Agreement.{Agrees, position_of, unit_days_of, none_ahead}
+use Rattle.conservation.proofs.Agreement.{Agrees, position_of, none_ahead}
 use Rattle.conservation.proofs.ByHolder.{position-same}
 use Rattle.conservation.proofs.TallyDays.{last-most, last_further, share_days_further}
 

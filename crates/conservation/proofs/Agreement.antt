@@ -7,17 +7,16 @@ use Rattle.std.specs.List.{sum}
 use Rattle.book_model.specs.declared.Book.{Book}
 use Rattle.book_model.specs.declared.Position.{Position}
 use Rattle.book_model.specs.Book.{held, settlements_of}
-use Rattle.book_model.specs.Positions.{holders, shares, unit_days_column, receipts}
+use Rattle.book_model.specs.Outcome.{answered, no_position}
+use Rattle.book_model.specs.Positions.{is_holder, holders, shares, unit_days_column, receipts}
+use Rattle.book_model.specs.Read as read
 use Rattle.book_model.specs.Invariant.{OpenSound}
 use Rattle.account.specs.Standing.{settled_on}
-use Rattle.conservation.specs.Tally.{Tally, share_today, share_days, last_before, weight, received}
-use Rattle.conservation.proofs.ByHolder.{position_with, holders_are}
+use Rattle.conservation.specs.Tally.{Tally, share_today, weight, received, unit_days_of}
+use Rattle.conservation.proofs.ByHolder.{position_with, holders_are, present-is, looked-up}
+use Rattle.conservation.proofs.Members.{each_of}
 use Rattle.account.proofs.Callers.{none_after_today, none_yet}
 use Rattle.conservation.proofs.TallyDays.{weights-some}
-
--- a holder's unit-days: its shares from the last settlement's day (or day 0) to the day before today
-unfoldable pub unit_days_of : Tally → ℕ → ℕ
-unit_days_of t h = share_days t h (last_before t.paid (suc t.today)) t.today
 
 -- the position that the tally gives a holder
 abbrev pub position_of : Tally → ℕ → Position
@@ -50,8 +49,8 @@ module _ (b : Book) (t : Tally) (agrees : Agrees b t) where
   pub shares_whole : sum (shares (held b)) ≡ 1000000
   shares_whole = ap sum shares-same ∙ agrees.whole t.today
 
-  pub unit_days_same : unit_days_column (held b) ≡ map (unit_days_of t) t.holders
-  unit_days_same = column (λ p. p.unit_days)
+  pub unit-days-same : unit_days_column (held b) ≡ map (unit_days_of t) t.holders
+  unit-days-same = column (λ p. p.unit_days)
 
   pub receipts-same : receipts (held b) ≡ map (received t) t.holders
   receipts-same = column (λ p. p.received.0)
@@ -62,6 +61,14 @@ module _ (b : Book) (t : Tally) (agrees : Agrees b t) where
     -- no holder stands twice
     pub holders-distinct : distinct t.holders ≡ true
     holders-distinct = rw holders-same at known.holders-distinct
+
+    -- each reads its position as the tally has it
+    pub positions-read : b.opened ≡ true → (h : ℕ) → among h t.holders ≡ true → read.position_of b h ≡ answered (position_of t h)
+    unfolding read.position_of
+    positions-read is_open h m =
+        let right : is_holder h ≡ true = each_of is_holder h t.holders (rw holders-same at known.holders-right) m in
+        let p = position_of t in
+        rw (is_open, right, agrees.positions, present-is p (λ x. refl) h t.holders, m, looked-up p (λ x. refl) h no_position t.holders m) refl
 
     -- nothing is settled after today
     pub none_ahead : (d : ℕ) → t.today < d → t.paid d ≡ none

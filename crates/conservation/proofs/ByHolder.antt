@@ -1,8 +1,9 @@
 -- Positions that stand for a list of distinct holders: what the book's changes make of them.
-use Rattle.std.proofs.Common.{ℕ, suc, ◌+◌, arith, add-zero, zero-add, ◌≡◌, refl, sym, ap, ap₂, ◌∙◌, Bool, true, false, cond, ◌||◌, List, [], ◌∷◌, map, eqb-true, eq-eqb, ne_eqb, lt-ltb, le-ltb, eqb, ltb, length}
+use Rattle.std.proofs.Common.{ℕ, suc, ◌+◌, arith, add-zero, zero-add, ◌≡◌, refl, sym, ap, ap₂, ◌∙◌, Bool, true, false, cond, ◌||◌, List, [], ◌∷◌, map, eqb-true, eq-eqb, ne_eqb, lt-ltb, le-ltb, eqb, ltb, get_or, length}
 use Rattle.std.proofs.lemmas.List.{length-map}
 use Rattle.general_laws.specs.Members.{distinct, among}
 use Rattle.std.proofs.lemmas.Bool.{or_parts, eqb-false}
+use Rattle.general_laws.proofs.Choice.{by-test}
 use Rattle.general_laws.proofs.Members.{member_other, first-apart, map_same}
 use Rattle.book_model.specs.declared.Position.{Position}
 use Rattle.book_model.specs.Book.{fresh}
@@ -45,6 +46,12 @@ module _ (p : ℕ → Position) (own : (h : ℕ) → (p h).holder ≡ h) where
           → cond t (p h).share.0 (share_of x (map p hs)) ≡ (p x).share.0
       go true e ih q = ap (λ (k : ℕ). (p k).share.0) (eqb-true h x e)
       go false e ih q = ih q
+
+  pub looked-up : (x : ℕ) (other : Position) (hs : List ℕ) → among x hs ≡ true → get_or (map p hs) (place x (map p hs)) other ≡ p x
+  looked-up x other [] m = cc
+  looked-up x other (h ∷ hs) m =
+      ap (λ (k : ℕ). get_or (p h ∷ map p hs) (cond (eqb k x) 0 (suc (place x (map p hs)))) other) (own h)
+      ∙ by-test (eqb h x) (λ e. rw e (ap p (eqb-true h x e))) (λ e. rw e (looked-up x other hs (rw e at m)))
 
   -- one holder's position changed
   module _ (x : ℕ) (f : Position → Position) where

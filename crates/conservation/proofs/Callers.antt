@@ -8,5 +8,5 @@ pub use Rattle.conservation.proofs.OpenAgrees.{opening-is}
 pub use Rattle.conservation.proofs.Conserved.{conserved}
 -- A reached open book comes from an accepted opening and a list of calls, so demand 3 holds of it.
 pub use Rattle.conservation.proofs.ReachedBooks.{reached-conserved}
--- The checked examples and the edges, by computation; daily rates by their two bounds.
+-- The checked examples, by computation; daily rates by their two bounds.
 pub use Rattle.conservation.proofs.Examples.{examples}

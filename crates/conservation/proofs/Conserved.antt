@@ -1,17 +1,19 @@
 -- Demand 3, by induction on the list of calls.
-use Rattle.std.proofs.Common.{◌+◌, arith, ◌≡◌, cond, List, [], ◌∷◌}
+use Rattle.std.proofs.Common.{◌+◌, arith, ◌≡◌, refl, sym, ap, true, not, cond, List, [], ◌∷◌}
 use Rattle.std.specs.List.{sum}
+use Rattle.general_laws.proofs.Choice.{by-test}
+use Rattle.calendar.specs.Calendar.{after}
 use Rattle.book_model.specs.declared.Book.{Book}
-use Rattle.book_model.specs.Book.{held}
+use Rattle.book_model.specs.Book.{empty_book, held}
 use Rattle.book_model.specs.Call.{Opening, Call, Advance, Rate, Transfer, Settle}
 use Rattle.book_model.specs.Calls.{book_after, accepts, run}
-use Rattle.book_model.specs.Positions.{receipts}
+use Rattle.book_model.specs.Positions.{shares, receipts}
 use Rattle.book_model.specs.Reached.{Reached, empty, opens}
 use Rattle.book_model.specs.Invariant.{Sound}
-use Rattle.book_model.proofs.Callers.{order_of, account_after, call-reached, sound, standing, advance_step, transfer_step, settle_step}
+use Rattle.book_model.proofs.Callers.{totals_open, order_of, account_after, call-reached, sound, standing, advance_step, transfer_step, settle_step}
 use Rattle.conservation.specs.Conservation.{opening_of, feed_of, accepted_cents, Conservation}
 use Rattle.conservation.specs.Tally.{Tally, start, day_of_date, entered, fed_with}
-use Rattle.conservation.proofs.Agreement.{Agrees, holders-same, shares-same, shares_whole, receipts-same}
+use Rattle.conservation.proofs.Agreement.{Agrees, holders-same, shares-same, shares_whole, unit-days-same, receipts-same, positions-read}
 use Rattle.conservation.proofs.CallAgrees.{agrees_after, receipts-after}
 use Rattle.conservation.proofs.CallCases.{Right, changed, accepted_cases}
 use Rattle.conservation.proofs.MoneyConserved.{money_conserved}
@@ -63,6 +65,11 @@ module _ (o : Opening) where
         agrees = agrees-opened o number;
       }
 
+-- a book whose shares total 1,000,000 is no empty one
+open_true : (b : Book) → Sound b → sum (shares (held b)) ≡ 1000000 → b.opened ≡ true
+unfolding empty_book
+open_true b h whole = by-test b.opened (λ e. e) (λ not_yet. absurd (cc (h.empty-before not_yet)))
+
 pub conserved : Conservation
 conserved o ks number =
     let first = (opening_of o).book in
@@ -71,18 +78,28 @@ conserved o ks number =
     let opened = joint_opened o number in
     let joint = joint_run o ks first (start o) opened in
     let agrees = joint.agrees in
+    let kept = sound b joint.reached in
+    let is_open = open_true b kept (shares_whole b t agrees) in
+    let known = kept.when_open is_open in
     let money = money_conserved o b t (standing b joint.reached) joint.terms agrees.today agrees.settlements in
     record {
       shares_whole = shares_whole b t agrees;
       holders-same = holders-same b t agrees;
       shares-same = shares-same b t agrees;
+      holders-distinct = known.holders-distinct;
       principal-whole = money.principal-whole;
       interest-whole = money.interest-whole;
+      fraction-below = known.bounded.below;
       receipts-whole = omega (arith, receipts-run o ks first (start o) opened, receipts-opened o number);
       receipts-same = receipts-same b t agrees;
+      unit-days-same = unit-days-same b t agrees;
+      opened-same = is_open;
+      first-same = joint.terms.first;
       today-same = agrees.today;
       outstanding-same = money.outstanding-same;
       due-same = money.due-same;
       principal-same = money.principal-same;
       interest-same = money.interest-same;
+      positions-read = positions-read b t agrees known is_open;
+      totals-read = sym (totals_open b (ap not is_open) (after o.first t.today) (rw (joint.terms.first, agrees.today) refl));
     }

@@ -1,4 +1,4 @@
--- The checked examples and the edges, by computation; daily rates by their two bounds.
+-- The checked examples, by computation; daily rates by their two bounds.
 use Rattle.std.proofs.Common.{◌≡◌, refl, sym, ap, ◌∙◌, [], ◌∷◌, pos, neg_ℤ}
 use Rattle.general_laws.specs.Sums.{sum_below, count_below}
 use Rattle.rates.proofs.Callers.{none_at_0, only}
@@ -6,14 +6,13 @@ use Rattle.calendar.specs.Calendar.{after, days_of_years, day_count}
 use Rattle.apportionment.specs.Apportionment.{total_weight, quotient, remainder, leftover, comes_before, rank, gets_extra, part}
 use Rattle.rates.specs.Rate.{within, daily_of}
 use Rattle.book_model.specs.declared.Book.{Book}
-use Rattle.book_model.specs.declared.Refusal.TheVariants as refusal
 use Rattle.account.specs.Accrual.{accrued_day, paid_off}
 use Rattle.book_model.specs.Advance.{day_passed, days_passed, advanced_to, advanced}
 use Rattle.book_model.specs.Book.{held, empty_book, with_held, with_account, with_today, with_settlement}
 use Rattle.account.specs.Opening.{opening}
 use Rattle.book_model.specs.Call.{Advance, Transfer, Settle}
 use Rattle.book_model.specs.Calls.{book_after, run}
-use Rattle.book_model.specs.Outcome.{no_changes, answered, declined}
+use Rattle.book_model.specs.Outcome.{no_changes, answered}
 use Rattle.book_model.specs.Open.{is_financing, new_book, opened}
 use Rattle.book_model.specs.Rate.{starting_before, with_rates, revised, rated_from, rated}
 use Rattle.book_model.specs.Read.{totals_of}
@@ -21,12 +20,12 @@ use Rattle.account.specs.Schedule.{in_force, last_day}
 use Rattle.book_model.specs.Settle.{settled_book, settled}
 use Rattle.account.specs.Standing.{settled_on, day_begins, account_at, overpaid}
 use Rattle.book_model.specs.Transfer.{moved, transferred}
-use Rattle.conservation.specs.Examples.{Examples, Edges, own_book, figures, position, next_day, changes_at0, changes, file_book}
+use Rattle.conservation.specs.Examples.{Examples, own_book, figures, position, next_day, changes_at0, changes, file_book}
 use Rattle.conservation.proofs.SteadyDays.{days_at, days_steady}
 use Rattle.calendar.proofs.Callers as calendar
 use Rattle.rates.proofs.Callers as rates
 
-at_2000 : daily_of 2000 ≡ 542552
+pub at_2000 : daily_of 2000 ≡ 542552
 unfolding within
 at_2000 = sym (only 2000 542552 refl refl)
 
@@ -69,10 +68,10 @@ held-ended = refl
 
 -- Examples 11 and 12
 
-abbrev day_later : Book
+abbrev pub day_later : Book
 day_later = days_at 542552 1 (own_book 1000000000 [])
 
-day-later : book_after (own_book 1000000000 []) next_day ≡ day_later
+pub day-later : book_after (own_book 1000000000 []) next_day ≡ day_later
 unfolding run opened is_financing new_book empty_book opening advanced advanced_to day_count days_of_years last_day
 day-later = days_steady 2000 542552 at_2000 (own_book 1000000000 []) refl 1
 
@@ -81,7 +80,7 @@ unfolding run opened is_financing new_book empty_book opening day_count days_of_
     settled settled_book with_settlement paid_off rated rated_from revised starting_before with_rates settled_on day_begins account_at overpaid
 regularised = rw (changes_at0, none_at_0)
 
-overpaid_at_0 : changes_at0 (book_after day_later (Settle 1000054255)) ≡ declined no_changes refusal.Overpaid
+overpaid_at_0 : changes_at0 (book_after day_later (Settle 1000054255)) ≡ record { number = 14; value = no_changes }
 unfolding run opened is_financing new_book empty_book opening day_count days_of_years with_held with_account with_today accrued_day in_force last_day
     settled settled_book with_settlement paid_off rated rated_from revised starting_before with_rates settled_on day_begins account_at overpaid
 overpaid_at_0 = rw (changes_at0, none_at_0)
@@ -106,8 +105,3 @@ examples =
       example_11_regularised = (rw at_2000, ap (λ b. changes_at0 (book_after b (Settle 100000))) day-later ∙ regularised);
       example_12_overpaid = (rw at_2000, ap (λ b. changes_at0 (book_after b (Settle 1000054255))) day-later ∙ overpaid_at_0);
     }
-
-pub edges : Edges
-unfolding run opened is_financing new_book empty_book opening
-    advanced advanced_to day_count days_of_years days_passed day_passed with_held with_account with_today accrued_day in_force last_day settled
-edges = record { days_92_pass = refl; days_93_pend = refl; greatest_payment = rw at_2000; over_the_greatest = refl }

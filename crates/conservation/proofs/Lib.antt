@@ -19,4 +19,6 @@ mod Conserved
 mod ReachedBooks
 mod SteadyDays
 mod Examples
+mod Edges
+mod Refusals
 pub mod Callers

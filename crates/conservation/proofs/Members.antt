@@ -1,10 +1,10 @@
 -- Lists of holders in order of appearance: at which place each stands, and one who is added last.
-use Rattle.std.proofs.Common.{ℕ, suc, ◌<◌, arith, ◌≡◌, refl, ap, Bool, true, false, cond, ◌||◌, List, [], ◌∷◌, ◌++◌, map, eq-eqb, eqb, length}
+use Rattle.std.proofs.Common.{ℕ, suc, ◌<◌, arith, ◌≡◌, refl, ap, Bool, true, false, cond, ◌||◌, List, [], ◌∷◌, ◌++◌, map, eqb-true, eq-eqb, eqb, length}
 use Rattle.std.proofs.lemmas.List.{map-append}
 use Rattle.general_laws.specs.Members.{distinct, among}
-use Rattle.std.specs.List.{sum}
-use Rattle.std.proofs.lemmas.Bool.{or_parts}
-use Rattle.general_laws.proofs.Choice.{choice}
+use Rattle.std.specs.List.{sum, list_all}
+use Rattle.std.proofs.lemmas.Bool.{and_parts, or_parts}
+use Rattle.general_laws.proofs.Choice.{by-test, choice}
 use Rattle.general_laws.proofs.Members.{among-joined, distinct-last}
 use Rattle.std.proofs.lemmas.List.Sums.{sum_by_push}
 use Rattle.conservation.specs.Tally.{with_holder, place}
@@ -22,6 +22,13 @@ place-within x (y ∷ hs) m = go (eqb y x) (place-within x hs) m
 pub place_without : (x : ℕ) (hs : List ℕ) → among x hs ≡ false → place x hs ≡ length hs
 place_without x [] away = refl
 place_without x (y ∷ hs) away = let n = or_parts (eqb y x) (among x hs) away in rw (n.0, place_without x hs n.1)
+
+-- what holds of all of them holds of each
+pub each_of : (f : ℕ → Bool) (x : ℕ) (hs : List ℕ) → list_all f hs ≡ true → among x hs ≡ true → f x ≡ true
+each_of f x [] all m = cc
+each_of f x (y ∷ hs) all m =
+    let h = and_parts (f y) (list_all f hs) all in
+    by-test (eqb y x) (λ e. rw (eqb-true y x e) at h.0) (λ e. each_of f x hs h.1 (rw e at m))
 
 -- One who comes last
 

@@ -11,9 +11,9 @@ use Rattle.book_model.specs.Outcome.{Outcome}
 use Rattle.book_model.specs.Positions.{shares, receipts}
 use Rattle.account.specs.Standing.{settled_on}
 use Rattle.book_model.specs.Call.{Opening}
-use Rattle.conservation.specs.Tally.{listed, start, share_days, last_before, portion_on, received}
+use Rattle.conservation.specs.Tally.{listed, start, share_days, last_before, portion_on, received, unit_days_of}
 use Rattle.book_model.proofs.Callers.{open_cases, no_refusal_is_0, Financed, founded-shares, founded-receipts, empty-sound, OpenStep, open_step}
-use Rattle.conservation.proofs.Agreement.{Agrees, unit_days_of}
+use Rattle.conservation.proofs.Agreement.{Agrees}
 use Rattle.conservation.proofs.ByHolder.{founded-is, listed-none}
 
 module _ (o : Opening) where

@@ -4,8 +4,8 @@ use Rattle.account.specs.declared.Account.{Account}
 use Rattle.book_model.specs.declared.Book.{Book}
 use Rattle.account.specs.declared.RateOrder.{RateOrder}
 use Rattle.book_model.specs.Rate.{with_rates}
-use Rattle.conservation.specs.Tally.{Tally, revise, share_days, weight, portion_on, received}
-use Rattle.conservation.proofs.Agreement.{Agrees, unit_days_of}
+use Rattle.conservation.specs.Tally.{Tally, revise, share_days, weight, portion_on, received, unit_days_of}
+use Rattle.conservation.proofs.Agreement.{Agrees}
 
 pub agrees-rated : (b : Book) (t : Tally) → Agrees b t → (orders : List RateOrder) (a : Account) (day annual : ℕ)
     → Agrees (with_rates b orders a) (revise t day annual)

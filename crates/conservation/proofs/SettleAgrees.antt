@@ -12,9 +12,9 @@ use Rattle.book_model.specs.Positions.{paid_position, paid_from, unit_days_colum
 use Rattle.book_model.specs.Settle.{settled_today, settled_book}
 use Rattle.book_model.specs.Invariant.{OpenSound, Sound}
 use Rattle.account.specs.Standing.{settled_on}
-use Rattle.conservation.specs.Tally.{Tally, settle, share_days, weight, place, portion_of, portion_on, received}
+use Rattle.conservation.specs.Tally.{Tally, settle, share_days, weight, place, portion_of, portion_on, received, unit_days_of}
 use Rattle.book_model.proofs.Callers.{SettleRight, SettleStep, settle_step}
-use Rattle.conservation.proofs.Agreement.{Agrees, position_of, unit_days_of, holders-distinct, unit_days_same}
+use Rattle.conservation.proofs.Agreement.{Agrees, position_of, holders-distinct, unit-days-same}
 use Rattle.conservation.proofs.ByHolder.{position-same, paid-is}
 use Rattle.account.proofs.Callers.{none_after_last, settled-joined}
 use Rattle.conservation.proofs.TallyDays.{last_none, last_some, share_days_none, weight-same}
@@ -56,7 +56,7 @@ module _ (b : Book) (known : OpenSound b) (t : Tally) (agrees : Agrees b t) (m :
   weights = map (weight t t.today) t.holders
 
   weights_are : unit_days_column (held b) ≡ weights
-  weights_are = unit_days_same b t agrees ∙ map_same t.holders (unit_days_of t) (weight t t.today) (λ h _. weight_now h)
+  weights_are = unit-days-same b t agrees ∙ map_same t.holders (unit_days_of t) (weight t t.today) (λ h _. weight_now h)
 
   no_unit_days : (h : ℕ) → unit_days_of paying h ≡ 0
   unfolding unit_days_of settle

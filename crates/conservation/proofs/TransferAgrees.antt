@@ -16,9 +16,9 @@ use Rattle.book_model.specs.declared.Position.{Position}
 use Rattle.book_model.specs.Book.{fresh, held, with_held}
 use Rattle.book_model.specs.Positions.{present, share_of, change, less, more, given}
 use Rattle.book_model.specs.Invariant.{OpenSound, Sound}
-use Rattle.conservation.specs.Tally.{Tally, moved_share, with_holder, transfer, share_today, last_before, weight, place, portion_of, portion_on, received}
+use Rattle.conservation.specs.Tally.{Tally, moved_share, with_holder, transfer, share_today, last_before, weight, place, portion_of, portion_on, received, unit_days_of}
 use Rattle.book_model.proofs.Callers.{TransferRight, assigned, TransferStep, transfer_step}
-use Rattle.conservation.proofs.Agreement.{Agrees, position_of, unit_days_of, holders-distinct, settled-weights}
+use Rattle.conservation.proofs.Agreement.{Agrees, position_of, holders-distinct, settled-weights}
 use Rattle.conservation.proofs.ByHolder.{position_with, position-same, present-is, share-is, changed_at, change-is}
 use Rattle.conservation.proofs.Members.{place-within, place_kept, place-last, added, still_among, added-among, away-before, added-distinct, added-total}
 use Rattle.conservation.proofs.Newcomers.{part-kept, part-last}

@@ -2,3 +2,5 @@
 pub mod Tally
 pub mod Conservation
 pub mod Examples
+pub mod Edges
+pub mod Refusals

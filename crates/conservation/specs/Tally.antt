@@ -197,3 +197,8 @@ portion_on t h day = portion_of (t.paid day) (map (weight t day) t.holders) (pla
 -- what a holder has received: its portions of the settlements of day 0 to today
 unfoldable pub received : Tally → ℕ → ℕ
 received t h = sum_below (suc t.today) (portion_on t h)
+
+-- "For each day left behind, every position gains its share in unit-days" and, at a settlement, "Unit-days become 0.": a holder's shares from
+-- the last settlement's day (or day 0) to the day before today, a settlement of today included
+unfoldable pub unit_days_of : Tally → ℕ → ℕ
+unit_days_of t h = share_days t h (last_before t.paid (suc t.today)) t.today

@@ -2,7 +2,9 @@
 #![tactic(auto)]
 
 ghost use Rattle.conservation.specs.Conservation.{Conservation, ReachedConserved, ReachedBookConserved};
-ghost use Rattle.conservation.specs.Examples.{Examples, Edges};
+ghost use Rattle.conservation.specs.Edges.{Edges};
+ghost use Rattle.conservation.specs.Examples.{Examples};
+ghost use Rattle.conservation.specs.Refusals.{Refusals};
 
 // After every accepted opening and every list of Advance, Rate, Transfer and Settle calls, in any order and refused ones included, the
 // book equals the tally; and every reached open book has such a history, also where its type says that it is reached. It does nothing.
@@ -10,7 +12,8 @@ pub fn conservation()
     ensures { Conservation × ReachedConserved × ReachedBookConserved }
 {}
 
-// The twelve checked examples of document 01 together, and its edges, about the definitions that the contracts cite. It does nothing.
+// The twelve checked examples of document 01 together, the edges of its table "What stops a call", and what every refusal gives back, about the
+// definitions that the contracts cite. It does nothing.
 pub fn checked_examples()
-    ensures { Examples × Edges }
+    ensures { Examples × Edges × Refusals }
 {}

@@ -1,13 +1,14 @@
 // A file loaded on a book, and the part of the file that the answer names.
 ghost use Rattle.std.specs.Prelude.{◌≡◌, ◌≢◌, ◌-◌, ◌<◌, eqb, length};
-ghost use Rattle.lines.specs.Lines.{part_of};
-ghost use Rattle.file_model.specs.Load.{answered, load_stated, load_of, part_start, part_end};
+ghost use Rattle.std.specs.Str.{byte};
+ghost use Rattle.lines.specs.Lines.{part_in};
+ghost use Rattle.file_model.specs.Load.{answered, load_stated, load_of, number_told, line_named, part_start, part_end};
 ghost use Rattle.file.specs.Turns.{by_line, stopped, Ends, Moves, Opens, Obeys};
 
 use crate::financing::gather;
 use crate::reading::Lines;
 use book::{Called, Cents, Day, Opening, Parts, ReachedBook, Refusal};
-use file_model::{LoadFault, LoadRefusal, line_named};
+use file_model::{LoadFault, LoadRefusal};
 use line::Fields;
 use std::ops::Range;
 
@@ -60,7 +61,7 @@ fn end(count: u64, lines: &Lines) -> Result<usize, LoadFault>
 // orders would be made from the fields and taken apart in this one function.
 #[tactic(auto, using(crate::proofs::CallAnswers::obeys))]
 fn obey(book: &mut ReachedBook, order: Fields, lines: &mut Lines) -> Result<(), LoadFault>
-    requires { (0 < lines.old.read) × (order.letter ≢ 69) }
+    requires { (0 < lines.old.read) × (order.letter ≢ byte "E") }
     ensures obeyed { Obeys order lines.old lines.new book.old.book book.new.book result }
     ensures moved { Moves lines.old lines.new }
 {
@@ -119,19 +120,23 @@ pub fn load(file: &[u8], book: ReachedBook) -> Called<usize, LoadFault>
     book.call(|book| load_in_place(file, book))
 }
 
-// Where the part begins and ends that an answer names: the refused line, or the empty part at the file's end. File and answer stay apart, as callers
-// have them.
-#[tactic(auto, unfolding(file_model::specs::Load::part_start, file_model::specs::Load::part_end))]
+// Where the part begins and ends that an answer shows: the refused line, or the empty part at the file's end. A load answers numbers alone, and this call and
+// the next are made where somebody wants the part. File and answer stay apart, as callers have them.
+#[tactic(auto, using(file_model::proofs::Callers::refusal_not_zero), unfolding(file_model::specs::Load::part_start, file_model::specs::Load::part_end))]
 pub fn part_bounds(file: &[u8], answer: Result<usize, LoadFault>) -> Range<usize>
-    ensures { (result.start ≡ part_start file.now answer) × (result.end ≡ part_end file.now answer) }
+    ensures { (result.start ≡ part_start file.now (number_told answer) (line_named answer)) × (result.end ≡ part_end file.now (number_told answer) (line_named answer)) }
 {
-    lines::line_bounds(file, line_named(answer))
+    match answer {
+        Ok(_) => file.len()..file.len(),
+        Err(fault) => lines::line_bounds(file, fault.line),
+    }
 }
 
-// The part itself.
-#[tactic(auto, unfolding(file_model::specs::Load::part_start, file_model::specs::Load::part_end))]
+// The part itself, of the file that is lent.
+#[tactic(auto, using(file_model::proofs::Callers::part_within))]
 pub fn refused_part<'a>(file: &'a [u8], answer: Result<usize, LoadFault>) -> &'a [u8]
-    ensures { result.now ≡ part_of file.now (part_start file.now answer) (part_end file.now answer) }
+    ensures { result ≡ part_in file.entry (part_start file.now (number_told answer) (line_named answer)) (part_end file.now (number_told answer) (line_named answer)) }
 {
-    lines::line_part(file, line_named(answer))
+    let Range { start, end } = part_bounds(file, answer);
+    &file[start..end]
 }

@@ -1,5 +1,6 @@
 // A file read line by line, with the number of the line that was read last.
 ghost use Rattle.std.specs.Prelude.{◌+◌, ◌^◌, ◌≤◌, ◌<◌, ◌≡◌, eqb, length, get_or};
+ghost use Rattle.std.specs.Str.{byte};
 ghost use Rattle.lines.specs.Lines.{line_at, end_of};
 ghost use Rattle.file.specs.Reading.{ReadAs};
 
@@ -35,7 +36,7 @@ impl<'a> Lines<'a> {
 
     // Whether the next line begins with F: that byte alone, as the line isn't read yet.
     pub fn begins_with_f(&self) -> bool
-        ensures { result ≡ eqb (get_or self.now.reader.file.now self.now.reader.at 0) 70 }
+        ensures { result ≡ eqb (get_or self.now.reader.file.now self.now.reader.at 0) (byte "F") }
     {
         self.reader.file.get(self.reader.at) == Some(&b'F')
     }

@@ -7,6 +7,7 @@ use Rattle.file_model.specs.Load.{refusal_number}
 pub use Rattle.file_model.proofs.LineOrders.{order-read, order-malformed, letter-first}
 pub use Rattle.file_model.proofs.LoadRuns.{reached-kept}
 pub use Rattle.file_model.proofs.LoadFaults.{end_alone}
+pub use Rattle.file_model.proofs.LoadParts.{part_within}
 pub use Rattle.file_model.proofs.Examples.{examples}
 
 pub refusal_not_zero : (r : LoadRefusal) → eqb (refusal_number r) 0 ≡ false

@@ -1,5 +1,6 @@
 -- The worked examples, by computation; the paper's file by the calls of example 8.
 use Rattle.std.proofs.Common.{ℕ, ◌+◌, ◌≤◌, ◌<◌, ◌≡◌, refl, sym, ap, ◌∙◌, true, false, List, [], ◌∷◌, ◌++◌, arith, take}
+use Rattle.std.specs.Prelude.{codes}
 use Rattle.calendar.specs.Calendar.{days_of_years, day_count}
 use Rattle.book_model.specs.declared.Book.{Book}
 use Rattle.book_model.specs.declared.Taken.{Taken}
@@ -19,12 +20,12 @@ use Rattle.book_model.proofs.Callers.{accepted as settle-accepted}
 use Rattle.conservation.specs.Examples.{own_book, file_book}
 use Rattle.conservation.proofs.Callers.{examples as conservation-examples}
 use Rattle.line.specs.Examples.{opening_line, financing_line, advance_line, transfer_line, later_advance_line, settlement_line, end_line}
-use Rattle.line.specs.Field.{field_at}
+use Rattle.line.specs.Field.{field_at, padded, justified}
+use Rattle.line.specs.Write.{field_bytes, bytes_under, line_bytes}
 use Rattle.line.specs.Line.{uses_of, assembled_of, columns_of, line_of}
-use Rattle.lines.specs.Lines.{lines}
-use Rattle.file_model.specs.declared.LoadRefusal.TheVariants as refusal
+use Rattle.lines.specs.Lines.{lines, line_start, line_end, start_of, line_length}
 use Rattle.file_model.specs.Examples.{Examples, paper_file, loaded, turned_away}
-use Rattle.file_model.specs.Load.{Outcome, None, accepted, begins_with_f, after_open, after_financing, after_line, load_from, load_of}
+use Rattle.file_model.specs.Load.{Outcome, None, accepted, begins_with_f, after_open, after_financing, after_line, load_from, load_of, part_start, part_end}
 use Rattle.file_model.specs.Order.{Later, order_of, order_in}
 use Rattle.file_model.proofs.LoadFaults.{more-refused, empty-refused}
 
@@ -92,22 +93,23 @@ unfolding load_of lines load_from after_open after_line order_of order_in field_
 paper_loaded = six_lines (end_line ∷ [])
 
 -- cut before its E line's line feed, and before its E line
-line_feed_missing : loaded (take 300 paper_file) ≡ turned_away 7 refusal.Line
+line_feed_missing : loaded (take 300 paper_file) ≡ turned_away 7 21
 unfolding load_of lines load_from after_open after_line order_of order_in field_at uses_of assembled_of columns_of line_of
 line_feed_missing = six_lines (take 42 end_line ∷ [])
 
-end_missing : loaded (take 258 paper_file) ≡ turned_away 7 refusal.Unfinished
+end_missing : loaded (take 258 paper_file) ≡ turned_away 7 22
 unfolding load_of lines load_from after_open
 end_missing = six_lines []
 
-bytes_after_end : loaded (paper_file ++ (10 ∷ [])) ≡ turned_away 8 refusal.Unfinished
+bytes_after_end : loaded (paper_file ++ codes "\n") ≡ turned_away 8 22
 bytes_after_end =
-    more-refused empty_book paper_file (10 ∷ []) (ap (λ (r : Outcome). r.number) paper_loaded) (omega arith)
-    ∙ ap (λ (r : Outcome). turned_away (r.count + 2) refusal.Unfinished) paper_loaded
+    more-refused empty_book paper_file (codes "\n") (ap (λ (r : Outcome). r.number) paper_loaded) (omega arith)
+    ∙ ap (λ (r : Outcome). turned_away (r.count + 2) 22) paper_loaded
 
 pub examples : Examples
-unfolding after_open after_financing after_line load_from load_of order_of order_in field_at uses_of assembled_of columns_of line_of lines
-    opened is_financing empty_book rated advanced advanced_to new_book day_count days_of_years last_day
+unfolding after_open after_financing after_line load_from load_of line_bytes bytes_under field_bytes justified padded order_of order_in field_at uses_of assembled_of columns_of line_of lines
+    opened is_financing empty_book rated advanced advanced_to new_book day_count days_of_years last_day days_passed day_passed
+    with_held with_account with_today part_start part_end line_start line_end start_of line_length
 examples =
     record {
       paper_accepted = ap (λ (r : Outcome). r.number) paper_loaded;
@@ -119,6 +121,12 @@ examples =
       end_missing = end_missing;
       bytes_after_end = bytes_after_end;
       wrong_count = refl;
+      count_too_great = refl;
+      count_too_small = refl;
+      sixty_four_accepted = refl;
+      sixty_fifth_refused = refl;
+      sixty_fifth_malformed = refl;
+      each_opening_counted = refl;
       financing-first = refl;
       financing_late = refl;
       opening_before_next_line = refl;
@@ -126,4 +134,16 @@ examples =
       financing_before_opening = refl;
       unopened = refl;
       already_open = refl;
+      opening_before_count = refl;
+      call_behind_opening = refl;
+      malformed_behind_call = refl;
+      second_part = (refl, refl);
+      paper_part = (refl, refl);
+      opening-ordered = refl;
+      financing-ordered = refl;
+      advance-ordered = refl;
+      rate-ordered = refl;
+      transfer-ordered = refl;
+      settlement-ordered = refl;
+      end-ordered = refl;
     }

@@ -1,4 +1,4 @@
--- Facts about the definitions. `LoadRuns`, `LoadAccepts`, `LoadFaults`, `LoadEnds` and `Examples` are what the crate states; the others are what
+-- Facts about the definitions. `LoadRuns`, `LoadAccepts`, `LoadFaults`, `LoadParts`, `LoadEnds` and `Examples` are what the crate states; the others are what
 -- these cite, and `Callers` what callers cite.
 mod LineOrders
 mod LoadCases
@@ -7,6 +7,7 @@ mod OpeningHolders
 mod LoadRuns
 mod LoadAccepts
 mod LoadFaults
+mod LoadParts
 mod LoadEnds
 mod Examples
 pub mod Callers

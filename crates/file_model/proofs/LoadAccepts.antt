@@ -12,7 +12,7 @@ use Rattle.lines.specs.Lines.{lines}
 use Rattle.file_model.specs.Order.{Order, Open, Finance, Later, End, order_in}
 use Rattle.file_model.specs.Load.{Outcome, None, Waits, accepted, refused_by, opening_with, with_holder, load_from, load_of}
 use Rattle.file_model.specs.Load.{after_open, after_financing, after_line, begins_with_f}
-use Rattle.file_model.specs.Loads.{orders_in, all_accepted, call_lines, financing_lines, opening_lines}
+use Rattle.file_model.specs.Loads.{orders_in, all_accepted, call_lines, financing_lines, opening_before, opening_lines}
 use Rattle.file_model.proofs.LineOrders.{order-begins}
 use Rattle.file_model.proofs.OpeningHolders.{with_holders, with_no_holder, with_holder_first}
 
@@ -86,17 +86,23 @@ module _ (before : Book) (os : List Order) (r : Outcome) where
       ∙ financing_pass hs ss ls b line (with_holder o h s) (n + 1) (cc) (omega arith) (omega (arith, length-append o.holders (h ∷ [])))
       (λ m rest at e. ap (λ p. load_from before b (Waits line p) m rest) (with_holder_first o h s hs ss) ∙ goes m rest (omega arith) e)
 
--- the first line of calls and an E line doesn't begin with F
-calls_begin : (ks : List Call) (count : ℕ) (l : List ℕ) (ls : List (List ℕ)) → map order_in (l ∷ ls) ≡ call_lines ks count → begins_with_f l ≡ false
-calls_begin [] count l ls e = let is : order_in l ≡ End count = cc in rw is at (order-begins l)
-calls_begin (k ∷ ks) count l ls e = let is : order_in l ≡ Later k = cc in rw is at (order-begins l)
+-- an order that no line gives which begins with F
+data Plain : Order → Type 0 where
+  a-call : (k : Call) → Plain (Later k)
+  an-end : (count : ℕ) → Plain (End count)
 
--- before it a waiting opening is called
-opening-runs : (before b : Book) (n line : ℕ) (o : Opening) (ks : List Call) (count : ℕ) (ls : List (List ℕ)) → map order_in ls ≡ call_lines ks count
+plain_begins : (l : List ℕ) (order : Order) → order_in l ≡ order → Plain order → begins_with_f l ≡ false
+plain_begins l order is (a-call k) = rw is at (order-begins l)
+plain_begins l order is (an-end count) = rw is at (order-begins l)
+
+-- before calls and such an order a waiting opening is called
+opening-runs : (before b : Book) (n line : ℕ) (o : Opening) (ks : List Call) (order : Order) (os : List Order) (ls : List (List ℕ)) → Plain order
+    → map order_in ls ≡ map Later ks ++ (order ∷ os)
     → (opened_with b o).answer.number ≡ 0 → load_from before b (Waits line o) n ls ≡ load_from before (opened_with b o).book None n ls
-opening-runs before b n line o [] count [] e zero = cc
-opening-runs before b n line o (k ∷ ks) count [] e zero = cc
-opening-runs before b n line o ks count (l ∷ ls) e zero = opened-line before b n l ls line o (calls_begin ks count l ls e) zero
+opening-runs before b n line o [] order os [] p e zero = cc
+opening-runs before b n line o (k ∷ ks) order os [] p e zero = cc
+opening-runs before b n line o [] order os (l ∷ ls) p e zero = opened-line before b n l ls line o (plain_begins l order (cc) p) zero
+opening-runs before b n line o (k ∷ ks) order os (l ∷ ls) p e zero = opened-line before b n l ls line o (plain_begins l (Later k) (cc) (a-call k)) zero
 
 -- an accepted opening has as many shares as holders, and no more than 64
 opening-financed : (o : Opening) → (opening_of o).answer.number ≡ 0 → Financed o.holders o.shares
@@ -116,43 +122,58 @@ calls-accepted b s ks e all =
     ∙ calls_pass b (End (length ks) ∷ []) (accepted (length ks) (run b ks)) ks (lines s) b 0 e all
     (λ m rest at. end_line b (run b ks) m (length ks) rest (omega arith))
 
+-- a call that is refused stops the load
+refuses : (before b : Book) (k : Call) (os : List Order) → (number_of b k ≡ 0 → ⊥) → (count n : ℕ) (rest : List (List ℕ)) → n ≡ count
+    → map order_in rest ≡ Later k ∷ os → load_from before b None n rest ≡ refused_by before (count + 1) (number_of b k)
+refuses before b k os other count n [] at e = cc
+refuses before b k os other count n (l ∷ ls) at e =
+    refused-line before b n l ls k (cc) other ∙ ap (λ (line : ℕ). refused_by before line (number_of b k)) (omega arith)
+
 pub call-refused : (b : Book) (s : List ℕ) (ks : List Call) (k : Call) (os : List Order) → orders_in s ≡ map Later ks ++ (Later k ∷ os)
     → all_accepted b ks ≡ true → (number_of (run b ks) k ≡ 0 → ⊥) → load_of b s ≡ refused_by b (length ks + 1) (number_of (run b ks) k)
 call-refused b s ks k os e all other =
     load-lines b s (rw (e, length-append (map Later ks) (Later k ∷ os)) (omega arith))
-    ∙ calls_pass b (Later k ∷ os) (refused_by b (length ks + 1) (number_of (run b ks) k)) ks (lines s) b 0 e all refuses
-  where
-    refuses : (m : ℕ) (rest : List (List ℕ)) → m ≡ 0 + length ks → map order_in rest ≡ Later k ∷ os
-        → load_from b (run b ks) None m rest ≡ refused_by b (length ks + 1) (number_of (run b ks) k)
-    refuses m [] at e = cc
-    refuses m (l ∷ ls) at e =
-        refused-line b (run b ks) m l ls k (cc) other ∙ ap (λ (line : ℕ). refused_by b line (number_of (run b ks) k)) (omega arith)
+    ∙ calls_pass b (Later k ∷ os) (refused_by b (length ks + 1) (number_of (run b ks) k)) ks (lines s) b 0 e all
+    (λ n rest at. refuses b (run b ks) k os other (length ks) n rest (omega arith))
+
+-- behind an accepted opening: calls that are accepted, and an order that comes to an outcome whatever stands before it
+module _ (s : List ℕ) (o : Opening) (ks : List Call) (order : Order) (os : List Order) (plain : Plain order) (r : Outcome)
+    (e : orders_in s ≡ opening_before o (map Later ks ++ (order ∷ os)))
+    (zero : (opening_of o).answer.number ≡ 0) (all : all_accepted (opening_of o).book ks ≡ true)
+    (goes : (n : ℕ) (rest : List (List ℕ)) → n ≡ suc (length o.holders + length ks) → map order_in rest ≡ order ∷ os
+    → load_from empty_book (run (opening_of o).book ks) None n rest ≡ r) where
+  right : Financed o.holders o.shares
+  right = opening-financed o zero
+
+  -- behind the F lines
+  calls : (n : ℕ) (rest : List (List ℕ)) → n ≡ 1 + length o.holders → map order_in rest ≡ map Later ks ++ (order ∷ os)
+      → load_from empty_book empty_book (Waits 1 o) n rest ≡ r
+  calls n rest at e =
+      opening-runs empty_book empty_book n 1 o ks order os rest plain e zero
+      ∙ calls_pass empty_book (order ∷ os) r ks rest (opening_of o).book n e all (λ m last until. goes m last (omega arith))
+
+  opens : (ls : List (List ℕ)) → map order_in ls ≡ opening_before o (map Later ks ++ (order ∷ os)) → load_from empty_book empty_book None 0 ls ≡ r
+  opens [] e = cc
+  opens (l ∷ ls) e =
+      opening-line empty_book empty_book 0 l ls o.first o.term o.annual o.cents (cc)
+      ∙ financing_pass empty_book (map Later ks ++ (order ∷ os)) r o.holders o.shares ls empty_book 1
+      (opening_with o.first o.term o.annual o.cents [] []) 1 (cc) right.one_length (omega (arith, right.few)) calls
+
+  behind_opening : load_of empty_book s ≡ r
+  behind_opening = load-lines empty_book s (rw e (omega arith)) ∙ opens (lines s) e
 
 pub opening-accepted : (s : List ℕ) (o : Opening) (ks : List Call) → orders_in s ≡ opening_lines o ks (suc (length o.holders + length ks))
     → (opening_of o).answer.number ≡ 0 → all_accepted (opening_of o).book ks ≡ true
     → load_of empty_book s ≡ accepted (suc (length o.holders + length ks)) (run (opening_of o).book ks)
-opening-accepted s o ks e zero all = load-lines empty_book s (rw e (omega arith)) ∙ opens (lines s) e
-  where
-    count : ℕ
-    count = suc (length o.holders + length ks)
+opening-accepted s o ks e zero all =
+    let count = suc (length o.holders + length ks) in
+    behind_opening s o ks (End count) [] (an-end count) (accepted count (run (opening_of o).book ks)) e zero all
+    (λ n rest at. end_line empty_book (run (opening_of o).book ks) n count rest (omega arith))
 
-    result : Outcome
-    result = accepted count (run (opening_of o).book ks)
-
-    right : Financed o.holders o.shares
-    right = opening-financed o zero
-
-    -- behind the F lines
-    calls : (n : ℕ) (rest : List (List ℕ)) → n ≡ 1 + length o.holders → map order_in rest ≡ call_lines ks count
-        → load_from empty_book empty_book (Waits 1 o) n rest ≡ result
-    calls n rest at e =
-        opening-runs empty_book empty_book n 1 o ks count rest e zero
-        ∙ calls_pass empty_book (End count ∷ []) result ks rest (opening_of o).book n e all
-        (λ m last until. end_line empty_book (run (opening_of o).book ks) m count last (omega arith))
-
-    opens : (ls : List (List ℕ)) → map order_in ls ≡ opening_lines o ks count → load_from empty_book empty_book None 0 ls ≡ result
-    opens [] e = cc
-    opens (l ∷ ls) e =
-        opening-line empty_book empty_book 0 l ls o.first o.term o.annual o.cents (cc)
-        ∙ financing_pass empty_book (call_lines ks count) result o.holders o.shares ls empty_book 1
-        (opening_with o.first o.term o.annual o.cents [] []) 1 (cc) right.one_length (omega (arith, right.few)) calls
+pub call_refused_behind_opening : (s : List ℕ) (o : Opening) (ks : List Call) (k : Call) (os : List Order)
+    → orders_in s ≡ opening_before o (map Later ks ++ (Later k ∷ os))
+    → (opening_of o).answer.number ≡ 0 → all_accepted (opening_of o).book ks ≡ true → (number_of (run (opening_of o).book ks) k ≡ 0 → ⊥)
+    → load_of empty_book s ≡ refused_by empty_book (suc (length o.holders + length ks) + 1) (number_of (run (opening_of o).book ks) k)
+call_refused_behind_opening s o ks k os e zero all other =
+    behind_opening s o ks (Later k) os (a-call k) _ e zero all
+    (λ n rest at. refuses empty_book (run (opening_of o).book ks) k os other (suc (length o.holders + length ks)) n rest (omega arith))

@@ -1,6 +1,8 @@
 -- Loading a file on a book (document 01, "Order file"): its lines in turn, each by the book's own definition of its call. "Loading is all or
 -- nothing." "the first fault decides."
 use Rattle.std.specs.Prelude.{ℕ, ◌+◌, Result, Ok, Err, Bool, true, false, cond, not, List, [], ◌∷◌, ◌++◌, leb, eqb, length, get_or}
+use Rattle.std.specs.Str.{byte}
+use Rattle.answers.specs.Answers.{number_in}
 use Rattle.book_model.specs.declared.Book.{Book}
 use Rattle.book_model.specs.declared.called.Called.{Called}
 use Rattle.book_model.specs.declared.Refusal.TheVariants as book-refusal
@@ -106,7 +108,7 @@ none_left (l ∷ ls) = false
 
 -- "begin with F": its first byte, whatever its form
 abbrev pub begins_with_f : List ℕ → Bool
-begins_with_f l = eqb (get_or l 0 0) 70
+begins_with_f l = eqb (get_or l 0 0) (byte "F")
 
 unfoldable pub load_from : (before b : Book) → Waiting → (n : ℕ) → List (List ℕ) → Outcome
 -- 22: "no E line", at "the lines read plus 1"
@@ -121,17 +123,21 @@ unfoldable pub load_of : Book → List ℕ → Outcome
 load_of b [] = refused b 1 refusal.Empty
 load_of b (x ∷ s) = load_from b b None 0 (lines (x ∷ s))
 
--- The part of the file that an answer names
+-- The part of the file that an answer shows
+
+abbrev pub number_told : Result ℕ LoadFault → ℕ
+number_told = number_in (λ (fault : LoadFault). refusal_number fault.refusal)
 
 -- the number of the refused line, 0 for none
 abbrev pub line_named : Result ℕ LoadFault → ℕ
 line_named (Ok count) = 0
 line_named (Err fault) = fault.line
 
--- "the refused line itself, as part of the file (with its line feed; an incomplete last line up to the end; for 20, or 22 without E, the empty
--- part at the end)"; "Acceptance gives .. as its part the empty one at the file's end"
-unfoldable pub part_start : List ℕ → Result ℕ LoadFault → ℕ
-part_start s a = line_start s (line_named a)
+-- where it begins and ends, by the answer's number and line. "Acceptance gives .. as its part the empty one at the file's end. A refused file gives
+-- back the refused line itself, as part of the file (with its line feed; an incomplete last line up to the end; for 20, or 22 without E, the empty
+-- part at the end)"
+unfoldable pub part_start : List ℕ → (number line : ℕ) → ℕ
+part_start s number line = cond (eqb number 0) (length s) (line_start s line)
 
-unfoldable pub part_end : List ℕ → Result ℕ LoadFault → ℕ
-part_end s a = line_end s (line_named a)
+unfoldable pub part_end : List ℕ → (number line : ℕ) → ℕ
+part_end s number line = cond (eqb number 0) (length s) (line_end s line)

@@ -1,5 +1,6 @@
 -- What follows from the definition of a load, for every file and every book.
-use Rattle.std.specs.Prelude.{ℕ, suc, ◌+◌, ◌≤◌, ◌<◌, ◌≡◌, Bool, true, ◌&&◌, List, [], ◌∷◌, ◌++◌, map, length, get_or, take}
+use Rattle.std.specs.Prelude.{ℕ, suc, ◌+◌, ◌-◌, ◌≤◌, ◌<◌, ◌≡◌, ◌≢◌, Result, Bool, true, ◌&&◌, List, [], ◌∷◌, ◌++◌, map, length, get_or, take}
+use Rattle.std.specs.Str.{byte}
 use Rattle.book_model.specs.declared.Book.{Book}
 use Rattle.book_model.specs.Book.{empty_book}
 use Rattle.book_model.specs.Call.{Opening, Call}
@@ -8,10 +9,11 @@ use Rattle.book_model.specs.Reached.{Reached}
 use Rattle.conservation.specs.Conservation.{opening_of, feed_of, Conserved, History}
 use Rattle.conservation.specs.Tally.{start, fed_with}
 use Rattle.line.specs.Write.{line_bytes}
-use Rattle.lines.specs.Lines.{lines}
+use Rattle.lines.specs.Lines.{lines, part_of}
 use Rattle.file_model.specs.declared.LoadRefusal.TheVariants as refusal
 use Rattle.file_model.specs.Order.{Order, Open, Finance, Later, End, Malformed, order_in}
-use Rattle.file_model.specs.Load.{accepted, refused, refused_by, opening_with, load_of}
+use Rattle.file_model.specs.declared.LoadFault.{LoadFault}
+use Rattle.file_model.specs.Load.{accepted, refused, refused_by, answered, opening_with, load_of, number_told, line_named, part_start, part_end}
 
 -- The calls that stand in a file
 
@@ -74,9 +76,12 @@ financing_lines [] ss = []
 financing_lines (h ∷ hs) [] = []
 financing_lines (h ∷ hs) (s ∷ ss) = Finance h s ∷ financing_lines hs ss
 
--- the same behind an O line and the F lines of an opening
+-- lines behind an O line and the F lines of an opening
+abbrev pub opening_before : Opening → List Order → List Order
+opening_before o os = Open o.first o.term o.annual o.cents ∷ (financing_lines o.holders o.shares ++ os)
+
 abbrev pub opening_lines : Opening → List Call → (count : ℕ) → List Order
-opening_lines o ks count = Open o.first o.term o.annual o.cents ∷ (financing_lines o.holders o.shares ++ call_lines ks count)
+opening_lines o ks count = opening_before o (call_lines ks count)
 
 -- What an accepted file does
 
@@ -95,9 +100,29 @@ pub record FromEmpty (s : List ℕ) (o : Opening) (ks : List Call) : Type 0 wher
   pub is-run : (load_of empty_book s).book ≡ run (opening_of o).book ks
   pub conserved : Conserved o (load_of empty_book s).book (fed_with o (start o) (feed_of (opening_of o).book ks)) (feed_of (opening_of o).book ks)
 
--- the bytes of an E line with count 0
+-- the bytes of an E line
+abbrev pub end_of : (count : ℕ) → List ℕ
+end_of count = line_bytes (record { letter = byte "E"; date = 0; first = 0; second = 0; third = count })
+
 abbrev pub end_alone_file : List ℕ
-end_alone_file = line_bytes (record { letter = 69; date = 0; first = 0; second = 0; third = 0 })
+end_alone_file = end_of 0
+
+-- The part that a load's answer shows, by its number and line
+
+abbrev pub part_shown : List ℕ → (number line : ℕ) → List ℕ
+part_shown s number line = part_of s (part_start s number line) (part_end s number line)
+
+-- nothing, at the file's end
+abbrev pub EmptyAtEnd : List ℕ → (number line : ℕ) → Type 0
+EmptyAtEnd s number line = (part_start s number line ≡ length s) × (part_end s number line ≡ length s)
+
+pub record PartShown (s : List ℕ) (number line : ℕ) : Type 0 where
+  -- "Acceptance gives .. as its part the empty one at the file's end."
+  pub of_acceptance : number ≡ 0 → EmptyAtEnd s number line
+  -- "the refused line itself, as part of the file"
+  pub of_refusal : number ≢ 0 → part_shown s number line ≡ get_or (lines s) (line - 1) []
+  -- "for 20, or 22 without E, the empty part at the end"
+  pub behind_lines : line ≡ length (lines s) + 1 → EmptyAtEnd s number line
 
 pub record Loads : Type 0 where
   -- "A load that reports success and applies no line, or only the first": the book is the lines' outcome
@@ -110,9 +135,13 @@ pub record Loads : Type 0 where
   pub opening-accepted : (s : List ℕ) (o : Opening) (ks : List Call) → orders_in s ≡ opening_lines o ks (suc (length o.holders + length ks))
       → (opening_of o).answer.number ≡ 0 → all_accepted (opening_of o).book ks ≡ true
       → load_of empty_book s ≡ accepted (suc (length o.holders + length ks)) (run (opening_of o).book ks)
-  -- "the first fault decides": the first call that is refused gives its number and line, whatever follows it
+  -- "the first fault decides": the first call that is refused gives its number and line, whatever follows it; behind an opening too
   pub call-refused : (b : Book) (s : List ℕ) (ks : List Call) (k : Call) (os : List Order) → orders_in s ≡ map Later ks ++ (Later k ∷ os)
       → all_accepted b ks ≡ true → (number_of (run b ks) k ≡ 0 → ⊥) → load_of b s ≡ refused_by b (length ks + 1) (number_of (run b ks) k)
+  pub call_refused_behind_opening : (s : List ℕ) (o : Opening) (ks : List Call) (k : Call) (os : List Order)
+      → orders_in s ≡ opening_before o (map Later ks ++ (Later k ∷ os))
+      → (opening_of o).answer.number ≡ 0 → all_accepted (opening_of o).book ks ≡ true → (number_of (run (opening_of o).book ks) k ≡ 0 → ⊥)
+      → load_of empty_book s ≡ refused_by empty_book (suc (length o.holders + length ks) + 1) (number_of (run (opening_of o).book ks) k)
   -- loads go on from reached books to reached books, so demand 3 holds of every open book that any of them leaves
   pub reached-kept : (b : Book) (s : List ℕ) → Reached b → Reached (load_of b s).book
   pub conserved : (b : Book) (s : List ℕ) → Reached b → (load_of b s).book.opened ≡ true → History (load_of b s).book
@@ -123,6 +152,9 @@ pub record Loads : Type 0 where
   pub refused_leaves : (b : Book) (s : List ℕ) → ((load_of b s).number ≡ 0 → ⊥) → ((load_of b s).book ≡ b) × ((load_of b s).count ≡ 0)
   pub refused-names : (b : Book) (s : List ℕ) → ((load_of b s).number ≡ 0 → ⊥) → (1 ≤ (load_of b s).line) × ((load_of b s).line ≤ length (lines s) + 1)
   pub accepted_names_none : (b : Book) (s : List ℕ) → (load_of b s).number ≡ 0 → (load_of b s).line ≡ 0
+  -- the part that a load's own answer shows: a load answers numbers, and a second call hands out the part
+  pub part-shown : (b after : Book) (s : List ℕ) (answer : Result ℕ LoadFault) → answered answer after ≡ load_of b s
+      → PartShown s (number_told answer) (line_named answer)
   -- "Taking an empty file for a month without orders"
   pub empty-refused : (b : Book) → load_of b [] ≡ refused b 1 refusal.Empty
   -- "the empty part at the end": named for 22 without an E line, and for no other refusal of a file with a byte

@@ -1,2 +1,2 @@
 -- A fact about a buffer's front, which the code's proof cites.
-pub mod ReadBytes
+mod ReadBytes

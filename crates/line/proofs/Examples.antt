@@ -2,10 +2,11 @@
 use Rattle.std.proofs.Common.{refl}
 use Rattle.line.specs.Field.{field_at}
 use Rattle.line.specs.Line.{uses_of, assembled_of, columns_of, line_of}
+use Rattle.line.specs.Write.{fits_all, writable, written_of}
 use Rattle.line.specs.Examples.{Examples}
 
 pub examples : Examples
-unfolding field_at uses_of assembled_of columns_of line_of
+unfolding written_of writable fits_all field_at uses_of assembled_of columns_of line_of
 examples =
     record {
       opening-read = refl;
@@ -26,4 +27,12 @@ examples =
       unknown_letter_refused = refl;
       cut-refused = refl;
       longer_refused = refl;
+      widest_written = refl;
+      date_too_wide = refl;
+      first_too_wide = refl;
+      second_too_wide = refl;
+      third_too_wide = refl;
+      unused-filled = refl;
+      unknown-letter = refl;
+      short-buffer = refl;
     }

@@ -1,18 +1,19 @@
 -- A number field of fixed width (document 01, "Order file"): "Numbers stand right-justified after spaces, without leading zeros (zero is one 0)".
 use Rattle.std.specs.Prelude.{ℕ, zero, suc, ◌+◌, ◌-◌, ◌*◌, ◌/◌, ◌%◌, List, [], ◌∷◌, ◌++◌, Bool, cond, ◌&&◌, get_or, leb, eqb, Option, Some, None, Result, Ok, Err}
+use Rattle.std.specs.Str.{byte}
 use Rattle.line.specs.declared.Malformed.{Malformed}
 
 -- the byte of a space
 abbrev pub space : ℕ
-space = 32
+space = byte " "
 
 -- the byte of the digit 0; that of the digit d is d more
 abbrev pub zero_byte : ℕ
-zero_byte = 48
+zero_byte = byte "0"
 
 -- "All numbers in files are decimal": the bytes of 0 to 9
 abbrev pub is_digit : ℕ → Bool
-is_digit c = leb 48 c && leb c 57
+is_digit c = leb (byte "0") c && leb c (byte "9")
 
 -- Reading
 

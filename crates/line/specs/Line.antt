@@ -1,5 +1,6 @@
 -- A line of the order file, and its fields (document 01, "Order file").
 use Rattle.std.specs.Prelude.{ℕ, List, Bool, true, false, cond, not, ◌&&◌, length, get_or, eqb, Option, Some, None, Result, Ok, Err}
+use Rattle.std.specs.Str.{byte}
 use Rattle.answers.specs.Answers.{stated}
 use Rattle.line.specs.declared.Fields.{Fields}
 use Rattle.line.specs.declared.Malformed.{Malformed}
@@ -27,16 +28,16 @@ abbrev pub uses : (date first second third : Bool) → Option Uses
 uses date first second third = Some (record { date = date; first = first; second = second; third = third })
 
 -- "O: date, term, rate, cents. F: first = holder, third = share. D: date. R: date, third = rate. T: cedent, assignee, share. S: third = cents.
--- E: third = lines before it.", by the letter's byte: 79 is O, 70 F, 68 D, 82 R, 84 T, 83 S, 69 E
+-- E: third = lines before it.", by the letter's byte
 unfoldable pub uses_of : ℕ → Option Uses
 uses_of l =
-    cond (eqb l 79) (uses true true true true)
-    (cond (eqb l 70) (uses false true false true)
-    (cond (eqb l 68) (uses true false false false)
-    (cond (eqb l 82) (uses true false false true)
-    (cond (eqb l 84) (uses false true true true)
-    (cond (eqb l 83) (uses false false false true)
-    (cond (eqb l 69) (uses false false false true) None))))))
+    cond (eqb l (byte "O")) (uses true true true true)
+    (cond (eqb l (byte "F")) (uses false true false true)
+    (cond (eqb l (byte "D")) (uses true false false false)
+    (cond (eqb l (byte "R")) (uses true false false true)
+    (cond (eqb l (byte "T")) (uses false true true true)
+    (cond (eqb l (byte "S")) (uses false false false true)
+    (cond (eqb l (byte "E")) (uses false false false true) None))))))
 
 -- "an unused field is all spaces, a used one never"
 abbrev pub proper : Bool → Field → Bool
@@ -71,6 +72,6 @@ unfoldable pub columns_of : List ℕ → ℕ × Fields
 columns_of s =
     assembled_of (get_or s 0 0) (uses_of (get_or s 0 0)) (field_at s 1 8) (field_at s 9 9) (field_at s 18 9) (field_at s 27 15)
 
--- number and fields: "Each line has 42 columns and a line feed", byte 10
+-- number and fields: "Each line has 42 columns and a line feed"
 unfoldable pub line_of : List ℕ → ℕ × Fields
-line_of s = cond (eqb (length s) 43 && eqb (get_or s 42 0) 10) (columns_of s) (malformed_number, no_fields)
+line_of s = cond (eqb (length s) 43 && eqb (get_or s 42 0) (byte "\n")) (columns_of s) (malformed_number, no_fields)

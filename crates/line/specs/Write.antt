@@ -1,5 +1,6 @@
 -- The line that is written for given fields (document 01, "Order file").
 use Rattle.std.specs.Prelude.{ℕ, ◌^◌, List, [], ◌∷◌, ◌++◌, Bool, true, false, cond, ◌&&◌, length, drop, ltb, leb, eqb, Option, Some, None, Result}
+use Rattle.std.specs.Str.{byte}
 use Rattle.answers.specs.Answers.{number_in}
 use Rattle.line.specs.declared.Fields.{Fields}
 use Rattle.line.specs.declared.Malformed.{Malformed}
@@ -37,7 +38,7 @@ unfoldable pub bytes_under : Uses → Fields → List ℕ
 bytes_under u f =
     f.letter
     ∷ (field_bytes u.date 8 f.date
-    ++ (field_bytes u.first 9 f.first ++ (field_bytes u.second 9 f.second ++ (field_bytes u.third 15 f.third ++ (10 ∷ [])))))
+    ++ (field_bytes u.first 9 f.first ++ (field_bytes u.second 9 f.second ++ (field_bytes u.third 15 f.third ++ (byte "\n" ∷ [])))))
 
 -- the fields that a letter uses: none where it is unknown
 abbrev pub used_in : Option Uses → Uses

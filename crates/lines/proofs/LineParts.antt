@@ -3,7 +3,7 @@ use Rattle.std.proofs.Common.{◌≡◌, refl, ap, ◌∙◌, List, [], ◌∷�
 use Rattle.std.proofs.lemmas.Bool.Decides.{nat_tests}
 use Rattle.lines.specs.Lines.{lines, line_at, end_of, start_of, line_start, line_end, part_of}
 use Rattle.lines.specs.LineParts.{concatenated, LineParts}
-use Rattle.lines.proofs.LinePositions.{end-within, end-past, end_beyond, part_is_line, line_beyond, lines_at, lines_end, lines_from, line-some, start-within}
+use Rattle.lines.proofs.LinePositions.{end-past, end_beyond, part_is_line, line_beyond, lines_at, lines_end, lines_from, line-some, start-within}
 
 lines-together : (s : List ℕ) → concatenated (lines s) ≡ s
 unfolding lines
@@ -36,7 +36,7 @@ line-numbered : (s : List ℕ) (n : ℕ) → line_at s (start_of s n) ≡ get_or
 line-numbered s n = grind (arith, lines_from s n, lines_at s (start_of s n), lines_end s (start_of s n), line_beyond s (start_of s n), get_or-drop n (lines s) 0 [])
 
 line_is_part : (s : List ℕ) (n : ℕ) → part_of s (line_start s (suc n)) (line_end s (suc n)) ≡ get_or (lines s) n []
-unfolding line_start line_end
+unfolding line_start line_end start_of
 line_is_part s n = part_is_line s (start_of s n) _ refl ∙ line-numbered s n
 
 -- a line begins before the file's end where it is there, and at the end where it isn't
@@ -48,26 +48,30 @@ end_is_end : (s : List ℕ) (at : ℕ) → at ≡ length s → (at ≡ length s)
 end_is_end s at e = (e, end_beyond s at (omega arith) ∙ e)
 
 beyond_is_end : (s : List ℕ) (n : ℕ) → length (lines s) ≤ n → (line_start s (suc n) ≡ length s) × (line_end s (suc n) ≡ length s)
-unfolding line_start line_end
+unfolding line_start line_end start_of
 beyond_is_end s n h =
     end_is_end s (start_of s n) (grind (arith, lines_left s n, lines_at s (start_of s n), start-within s n))
 
-none_is_end : (s : List ℕ) → (line_start s 0 ≡ length s) × (line_end s 0 ≡ length s)
-unfolding line_start line_end
-none_is_end s = end_is_end s (length s) refl
+none_is_start : (s : List ℕ) → (line_start s 0 ≡ 0) × (line_end s 0 ≡ 0)
+unfolding line_start line_end start_of
+none_is_start s = (refl, refl)
 
 line-begins : (s : List ℕ) (n : ℕ) → n < length (lines s) → line_start s (suc n) < line_end s (suc n)
-unfolding line_start line_end
+unfolding line_start line_end start_of
 line-begins s n h = grind (arith, lines_left s n, end-past s (start_of s n), lines_end s (start_of s n))
 
-part-within : (s : List ℕ) (n : ℕ) → line_end s n ≤ length s
-unfolding line_start line_end
-part-within s zero = end-within s (length s) (omega arith)
-part-within s (suc k) = end-within s (start_of s k) (start-within s k)
+pub part_within : (s : List ℕ) (n : ℕ) → (line_start s n ≤ line_end s n) × (line_end s n ≤ length s)
+unfolding line_start line_end start_of
+part_within s zero = (omega arith, omega arith)
+part_within s (suc k) = (omega arith, start-within s (suc k))
 
-pub part_bounds : (s : List ℕ) (n : ℕ) → (line_start s n ≤ line_end s n) × (line_end s n ≤ length s)
-unfolding line_end
-part_bounds s n = (omega arith, part-within s n)
+first-begins : (s : List ℕ) → line_start s 1 ≡ 0
+unfolding line_start line_end start_of
+first-begins s = refl
+
+one_behind_another : (s : List ℕ) (n : ℕ) → line_start s (suc (suc n)) ≡ line_end s (suc n)
+unfolding line_start line_end start_of
+one_behind_another s n = refl
 
 pub parts : LineParts
 parts =
@@ -77,7 +81,9 @@ parts =
       next-feed = next-feed;
       line_is_part = line_is_part;
       beyond_is_end = beyond_is_end;
-      none_is_end = none_is_end;
+      first-begins = first-begins;
+      one_behind_another = one_behind_another;
+      none_is_start = none_is_start;
       line-begins = line-begins;
-      part-within = part-within;
+      part_within = part_within;
     }

@@ -7,7 +7,7 @@ use Rattle.std.specs.List.{position_or_len}
 use Rattle.std.proofs.lemmas.Grind.{common_steps}
 use Rattle.std.proofs.lemmas.List.Quantifiers.{position-Some}
 use Rattle.std.proofs.lemmas.List.Sums.{fails_before_first}
-use Rattle.lines.specs.Lines.{lines, line_length, line_at, end_of, start_of, line_start, part_of}
+use Rattle.lines.specs.Lines.{lines, line_length, line_at, end_of, start_of, part_of}
 
 -- The first line's length
 
@@ -114,19 +114,18 @@ lines-append (x ∷ y ∷ s) t e =
     let ends : get_or (y ∷ s) (length s) 0 ≡ 10 = simp unary_clauses at (e (omega arith)) in
     grind (arith, nat_tests, lines-append (y ∷ s) t (λ _. simp unary_clauses ends), lines-some (y ∷ s))
 
--- Where the line of a number begins
+-- Where so many lines end
 
-pub start_next : (s : List ℕ) (n : ℕ) → 0 < n → line_start s (n + 1) ≡ end_of s (line_start s n)
-unfolding line_start start_of
-start_next s zero h = absurd (omega arith)
-start_next s (suc k) h = rw add-one refl
+pub start_next : (s : List ℕ) (k : ℕ) → start_of s (k + 1) ≡ end_of s (start_of s k)
+unfolding start_of
+start_next s k = rw add-one refl
 
 pub start-within : (s : List ℕ) (k : ℕ) → start_of s k ≤ length s
 unfolding start_of
 start-within s zero = omega arith
 start-within s (suc k) = end-within s (start_of s k) (start-within s k)
 
--- it goes no further than the file's end
+-- they end no further than the file does
 start_further : (s : List ℕ) (k n : ℕ) → start_of s k ≡ length s → start_of s (k + n) ≡ length s
 unfolding start_of
 start_further s k zero e = rw add-zero e
@@ -134,11 +133,8 @@ start_further s k (suc n) e =
     let h = start_further s k n e in
     rw add-suc (end_beyond s (start_of s (k + n)) (omega arith) ∙ h)
 
-pub start_stays : (s : List ℕ) (k n : ℕ) → 0 < k → k ≤ n → line_start s k ≡ length s → line_start s n ≡ length s
-unfolding line_start
-start_stays s zero n pos h e = absurd (omega arith)
-start_stays s (suc k) zero pos h e = absurd (omega arith)
-start_stays s (suc k) (suc n) pos h e =
+pub start_stays : (s : List ℕ) (k n : ℕ) → k ≤ n → start_of s k ≡ length s → start_of s n ≡ length s
+start_stays s k n h e =
     let m : k + (n - k) ≡ n = omega arith in
     rw m at (start_further s k (n - k) e)
 

@@ -1,5 +1,6 @@
 // A reader, which moves over a lent file line by line.
 ghost use Rattle.std.specs.Prelude.{◌≡◌, ◌+◌, ◌≤◌, length, drop, eqb, position, IfOk};
+ghost use Rattle.std.specs.Str.{byte};
 ghost use Rattle.line.specs.Line.{read_stated, line_of};
 ghost use Rattle.lines.specs.Lines.{line_length, line_at, end_of};
 
@@ -7,7 +8,7 @@ use line::{Fields, LINE_BYTES, Malformed, read_line};
 
 // Where the first line feed is.
 fn feed_in(bytes: &[u8]) -> Option<usize>
-    ensures { result ≡ position (λ byte. eqb byte 10) bytes.now }
+    ensures { result ≡ position (λ x. eqb x (byte "\n")) bytes.now }
 {
     bytes.iter().position(|&byte| byte == b'\n')
 }

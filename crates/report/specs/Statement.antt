@@ -1,6 +1,7 @@
 -- What the statement prints (document 01, "Statement program"): "Printed numbers are right-justified as in the file, and each line ends in a line
 -- feed."
 use Rattle.std.specs.Prelude.{ℕ, Result, cond, List, [], ◌∷◌, ◌++◌, leb, eqb, length, drop}
+use Rattle.std.specs.Str.{byte}
 use Rattle.answers.specs.Answers.{stated}
 use Rattle.account.specs.declared.Account.{Account}
 use Rattle.book_model.specs.declared.Book.{Book}
@@ -15,19 +16,19 @@ use Rattle.report.specs.declared.Short.{Short}
 -- "B: today (8), outstanding (15), due (15), fraction (11), principal paid (15), interest paid (15)."
 unfoldable pub totals_line : (today : ℕ) → Account → List ℕ
 totals_line today a =
-    66
+    byte "B"
     ∷ (justified 8 today
     ++ (justified 15 a.outstanding.0
     ++ (justified 15 a.due.0
     ++ (justified 11 a.fraction
-    ++ (justified 15 a.principal_paid.0 ++ (justified 15 a.interest_paid.0 ++ (10 ∷ [])))))))
+    ++ (justified 15 a.principal_paid.0 ++ (justified 15 a.interest_paid.0 ++ (byte "\n" ∷ [])))))))
 
 -- "H: holder (9), share (9), unit-days (12), received (15)"
 unfoldable pub position_line : Position → List ℕ
 position_line p =
-    72
+    byte "H"
     ∷ (justified 9 p.holder
-    ++ (justified 9 p.share.0 ++ (justified 12 p.unit_days ++ (justified 15 p.received.0 ++ (10 ∷ [])))))
+    ++ (justified 9 p.share.0 ++ (justified 12 p.unit_days ++ (justified 15 p.received.0 ++ (byte "\n" ∷ [])))))
 
 -- "in book order"
 unfoldable pub position_lines : List Position → List ℕ
@@ -36,7 +37,7 @@ position_lines (p ∷ ps) = position_line p ++ position_lines ps
 
 -- "A refusal prints only X, number (3), line (9)."
 unfoldable pub refusal_line : (number line : ℕ) → List ℕ
-refusal_line number line = 88 ∷ (justified 3 number ++ (justified 9 line ++ (10 ∷ [])))
+refusal_line number line = byte "X" ∷ (justified 3 number ++ (justified 9 line ++ (byte "\n" ∷ [])))
 
 -- the statement of a book, by its totals and positions; "An accepted file that leaves the book empty prints nothing."
 unfoldable pub book_printed : Book → List ℕ

@@ -17,7 +17,7 @@ extern "C" {
         file_bytes: usize,
         out: *mut u8,
         out_bytes: usize,
-        length: *mut usize,
+        statement_bytes: *mut usize,
     ) -> u32;
 }
 
@@ -61,17 +61,17 @@ pub fn check(file: &[u8]) -> Result<usize, Refused> {
 /// of another answer than accepted.
 pub fn statement(file: &[u8]) -> Result<Vec<u8>, u32> {
     let mut out = vec![0; STATEMENT_BYTES];
-    let mut length = 0;
+    let mut statement_bytes = 0;
     let number = unsafe {
         taborumbra_statement(
             file.as_ptr(),
             file.len(),
             out.as_mut_ptr(),
             out.len(),
-            &mut length,
+            &mut statement_bytes,
         )
     };
-    out.truncate(length);
+    out.truncate(statement_bytes);
     match number {
         0 => Ok(out),
         _ => Err(number),

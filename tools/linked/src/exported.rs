@@ -18,7 +18,7 @@ extern "C" {
         file_bytes: usize,
         out: *mut u8,
         out_bytes: usize,
-        length: *mut usize,
+        statement_bytes: *mut usize,
     ) -> u32;
     fn taborumbra_read_line(
         line: *const u8,
@@ -55,14 +55,14 @@ pub fn check(
     unsafe { taborumbra_check(file.as_ptr(), file.len(), line, start, end, count) }
 }
 
-pub fn statement(file: &[u8], out: &mut [u8], length: &mut usize) -> u32 {
+pub fn statement(file: &[u8], out: &mut [u8], statement_bytes: &mut usize) -> u32 {
     unsafe {
         taborumbra_statement(
             file.as_ptr(),
             file.len(),
             out.as_mut_ptr(),
             out.len(),
-            length,
+            statement_bytes,
         )
     }
 }

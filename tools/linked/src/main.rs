@@ -33,6 +33,7 @@ usage: linked calls N SEED
        linked stack
        linked once CASE ours|reference
        linked files CASE FOLDER
+N is a whole number from 1 up, SEED a whole number
 cases: paper";
 
 fn main() -> ExitCode {
@@ -76,9 +77,10 @@ fn main() -> ExitCode {
     }
 }
 
-/// The calls that failed go to standard error.
+/// The calls that failed go to standard error. No calls are refused, as nothing would
+/// be compared.
 fn report_of(compare: fn(u64, u64) -> Report, count: &str, seed: &str) -> ExitCode {
-    let (Ok(count), Ok(seed)) = (count.parse(), seed.parse()) else {
+    let (Ok(count @ 1..), Ok(seed)) = (count.parse(), seed.parse()) else {
         return usage();
     };
     let report = compare(count, seed);

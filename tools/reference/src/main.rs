@@ -15,7 +15,8 @@ usage: reference rates | calendar-cases | calendar | apportionment-cases | appor
        reference statement
        reference agree N SEED
        reference compare PROGRAM N SEED
-       reference load-time FILE ROUNDS";
+       reference load-time FILE ROUNDS
+N and ROUNDS are whole numbers from 1 up, SEED is a whole number";
 
 fn main() -> io::Result<ExitCode> {
     let arguments: Vec<String> = std::env::args().skip(1).collect();
@@ -37,12 +38,13 @@ fn main() -> io::Result<ExitCode> {
             let file = statement::file_from(io::stdin())?;
             return print(statement::statement(&file).as_bytes());
         }
+        // None to compare is refused, as nothing would be compared.
         ["agree", lists, seed] => match (lists.parse(), seed.parse()) {
-            (Ok(lists), Ok(seed)) => return agree(lists, seed),
+            (Ok(lists @ 1..), Ok(seed)) => return agree(lists, seed),
             _ => return Ok(usage()),
         },
         ["compare", program, files, seed] => match (files.parse(), seed.parse()) {
-            (Ok(files), Ok(seed)) => return compare(program, files, seed),
+            (Ok(files @ 1..), Ok(seed)) => return compare(program, files, seed),
             _ => return Ok(usage()),
         },
         ["load-time", file, rounds] => match rounds.parse() {
