@@ -5,20 +5,15 @@ use Rattle.calendar.specs.Calendar.{next}
 use Rattle.book_model.specs.declared.Book.{Book}
 use Rattle.book_model.specs.Advance.{advanced}
 use Rattle.book_model.specs.Book.{empty_book}
-use Rattle.book_model.specs.Call.{Opening, Call, Advance, Rate, Transfer, Settle}
+use Rattle.book_model.specs.Call.{Call, Advance, Rate, Transfer, Settle}
 use Rattle.book_model.specs.Calls.{opened_with, number_of, run}
 use Rattle.book_model.specs.Rate.{rated}
 use Rattle.book_model.specs.Read.{position_of, position_at, totals_of}
 use Rattle.book_model.specs.Settle.{settled}
 use Rattle.book_model.specs.Transfer.{transferred}
-use Rattle.conservation.specs.Conservation.{opening_of}
-use Rattle.conservation.specs.Examples.{book_of, own_book, figures, position, changes, next_day, taken_of, taken}
+use Rattle.conservation.specs.Examples.{opened_at, book_of, own_book, figures, position, changes, next_day, taken_of, taken}
 
 -- Openings
-
-abbrev pub opening_with : (first term annual cents : ℕ) → (holders shares : List ℕ) → Opening
-opening_with first term annual cents hs ss =
-    record { first = first; term = term; annual = annual; cents = cents; holders = hs; shares = ss }
 
 -- holders 1 to n
 abbrev pub up_to : ℕ → List ℕ
@@ -26,7 +21,7 @@ up_to n = list_below n (λ k. k + 1)
 
 -- the number that Open answers, of an empty book
 abbrev pub opens : (first term annual cents : ℕ) → (holders shares : List ℕ) → ℕ
-opens first term annual cents hs ss = (opening_of (opening_with first term annual cents hs ss)).answer.number
+opens first term annual cents hs ss = (opened_at first term annual cents hs ss).answer.number
 
 -- the same, of one holder
 abbrev pub opens_own : (first term annual cents : ℕ) → ℕ
@@ -39,7 +34,7 @@ opens_for hs ss = opens 20140101 30 2000 100 hs ss
 -- Books at rate 0, of 1,000 cents, opened on 20140101, with some calls
 
 abbrev pub book_at_0 : ℕ → (holders shares : List ℕ) → List Call → Book
-book_at_0 term hs ss ks = run (opening_of (opening_with 20140101 term 0 1000 hs ss)).book ks
+book_at_0 term hs ss ks = run (opened_at 20140101 term 0 1000 hs ss).book ks
 
 -- of one holder
 abbrev pub own_at_0 : ℕ → List Call → Book
@@ -54,7 +49,9 @@ book_of_64 ks = book_at_0 30 (up_to 64) (replicate 64 15625) ks
 
 -- the number that Open answers, of an open book
 abbrev pub reopens : ℕ → ℕ
-reopens first = (opened_with (own_at_0 30 []) (opening_with first 30 2000 100 (1 ∷ []) (1000000 ∷ []))).answer.number
+reopens first =
+    (opened_with (own_at_0 30 [])
+    (record { first = first; term = 30; annual = 2000; cents = 100; holders = 1 ∷ []; shares = 1000000 ∷ [] })).answer.number
 
 -- n orders of rate 0: the first from this date on, each other one from the next day on
 abbrev pub orders : ℕ → ℕ → List Call
@@ -77,7 +74,7 @@ with_settlements n ks = own_at_0 300 (settlements 20140102 n ++ ks)
 -- 1,000,000,000 cents on day 15, with 16 rates stored: those of days 0 to 14 are 0, and that of day 15 is 2,000
 abbrev pub rated_16 : Book
 rated_16 =
-    run (opening_of (opening_with 20140101 30 0 1000000000 (1 ∷ []) (1000000 ∷ []))).book
+    run (opened_at 20140101 30 0 1000000000 (1 ∷ []) (1000000 ∷ [])).book
     (Advance 20140116 ∷ (orders 20140102 14 ++ (Rate 20140116 2000 ∷ [])))
 
 -- two days later, with all that is due and outstanding paid
@@ -156,7 +153,7 @@ pub record OpenEdges : Type 0 where
   pub all_wrong_from_cents : opens 20140101 30 4001 0 (1 ∷ []) [] ≡ 5
   pub all_wrong_over_cents : opens 20140101 30 4001 1000000000001 (1 ∷ []) [] ≡ 5
   -- "A refusal gives back its number, with 0 in every other field .., and the book that came in."
-  pub refused : opening_of (opening_with 20140101 0 2000 100 (1 ∷ []) (1000000 ∷ []))
+  pub refused : opened_at 20140101 0 2000 100 (1 ∷ []) (1000000 ∷ [])
       ≡ record { answer = record { number = 4; value = tt }; book = empty_book }
 
 pub record AdvanceEdges : Type 0 where

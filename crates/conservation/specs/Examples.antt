@@ -11,17 +11,21 @@ use Rattle.book_model.specs.declared.Taken.{Taken}
 use Rattle.book_model.specs.Book.{held}
 use Rattle.book_model.specs.Call.{Call, Advance, Transfer, Settle}
 use Rattle.book_model.specs.Calls.{run}
-use Rattle.book_model.specs.Outcome.{Answer, no_changes, answered}
+use Rattle.book_model.specs.Outcome.{Answer, Outcome, no_changes, answered}
 use Rattle.book_model.specs.Positions.{receipts}
 use Rattle.book_model.specs.Rate.{rated}
 use Rattle.book_model.specs.Read.{totals_of}
 use Rattle.book_model.specs.Settle.{settled}
 use Rattle.conservation.specs.Conservation.{opening_of}
 
+-- what Open gives back of these arguments, on the empty book
+abbrev pub opened_at : (first term annual cents : ℕ) → (holders shares : List ℕ) → Outcome (Unit {0})
+opened_at first term annual cents hs ss =
+    opening_of (record { first = first; term = term; annual = annual; cents = cents; holders = hs; shares = ss })
+
 -- the book after an opening at 2,000 from 20140101 and some calls
 abbrev pub book_of : (term cents : ℕ) → List ℕ → List ℕ → List Call → Book
-book_of term cents hs ss ks =
-    run (opening_of (record { first = 20140101; term = term; annual = 2000; cents = cents; holders = hs; shares = ss })).book ks
+book_of term cents hs ss ks = run (opened_at 20140101 term 2000 cents hs ss).book ks
 
 -- of one holder, for 30 days
 abbrev pub own_book : ℕ → List Call → Book
