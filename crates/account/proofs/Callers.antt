@@ -9,7 +9,7 @@ pub use Rattle.account.proofs.Timeline.{last-joined, last_within, timely-joined,
 -- A day's settlement off the stored list: none after the last, and one settlement more.
 pub use Rattle.account.proofs.SettledDays.{none_after_last, none_after_today, none_yet, settled-joined}
 -- The account from day to day: days without a settlement elapse, and a settlement pays off.
-pub use Rattle.account.proofs.AccountSteps.{account-elapsed, account_paid_off}
+pub use Rattle.account.proofs.AccountSteps.{account-elapsed, account_paid_off, begins-same}
 -- Where no settlement is over due plus outstanding, the principal is whole on every day; and one settlement more that is not over.
 pub use Rattle.account.proofs.NotOverpaid.{not_over_joined, principal-whole}
 -- Where no settlement is over due plus outstanding, the account of every day stays within the bounds of that day.

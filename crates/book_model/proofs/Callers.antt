@@ -33,7 +33,7 @@ pub use Rattle.book_model.proofs.Steps.{AdvanceStep, OpenStep, SameRight, Settle
 pub use Rattle.book_model.proofs.Settlements.{accepted, put-together}
 -- Today of an open book is a date, and what its totals are.
 pub use Rattle.book_model.proofs.Readings.{today-counted, totals_open}
--- A rate order sets the rate from its first day on.
+-- A rate order sets the rate from its first day on, and leaves the account up to that day as it was.
 pub use Rattle.book_model.proofs.RateOrders.{annual-opened, rate_sets_from, rates-with_rates}
 -- In every reached book the account is what the recognised cents, rates, settlements and today make it, and no settlement is over.
 pub use Rattle.book_model.proofs.StandingKept.{Standing, standing}

@@ -9,6 +9,7 @@ use Rattle.book_model.specs.declared.Refusal.{Refusal}
 use Rattle.book_model.specs.declared.Revised.{Revised}
 use Rattle.book_model.specs.declared.Taken.{Taken}
 use Rattle.book_model.specs.declared.called.Called.{Called}
+use Rattle.book_model.specs.declared.called.ReachedBook.{ReachedBook}
 use Rattle.book_model.specs.Called.{stated}
 use Rattle.book_model.specs.Open.{opened}
 use Rattle.book_model.specs.Advance.{advanced}
@@ -37,19 +38,19 @@ module _ (b : Book) (reached : Reached b) where
   by_outcome : {A : Type 0} {o given : Outcome A} → given ≡ o → Reached o.book → Reached given.book
   by_outcome {A = A} e r = subst Reached (ap (λ (x : Outcome A). x.book) (sym e)) r
 
-  pub open_reached : (first : ℕ) (term : Day) (annual : ℕ) (cents : Cents) (hs ss : List ℕ) (r : Called (Unit {0}) Refusal)
+  pub open_reached : (first : ℕ) (term : Day) (annual : ℕ) (cents : Cents) (hs ss : List ℕ) (r : Called (Unit {0}) Refusal ReachedBook)
       → stated nothing r ≡ opened b first term annual cents hs ss → Reached r.book.book
   open_reached first term annual cents hs ss r e = by_outcome e (opens reached first term annual cents hs ss)
 
-  pub advance-reached : (date : ℕ) (r : Called Day Refusal) → stated no_days r ≡ advanced b date → Reached r.book.book
+  pub advance-reached : (date : ℕ) (r : Called Day Refusal ReachedBook) → stated no_days r ≡ advanced b date → Reached r.book.book
   advance-reached date r e = by_outcome e (advances reached date)
 
-  pub rate-reached : (date annual : ℕ) (r : Called Revised Refusal) → stated no_changes r ≡ rated b date annual → Reached r.book.book
+  pub rate-reached : (date annual : ℕ) (r : Called Revised Refusal ReachedBook) → stated no_changes r ≡ rated b date annual → Reached r.book.book
   rate-reached date annual r e = by_outcome e (rates reached date annual)
 
-  pub transfer-reached : (cedent assignee : ℕ) (parts : Parts) (r : Called Parts Refusal)
+  pub transfer-reached : (cedent assignee : ℕ) (parts : Parts) (r : Called Parts Refusal ReachedBook)
       → stated no_parts r ≡ transferred b cedent assignee parts → Reached r.book.book
   transfer-reached cedent assignee parts r e = by_outcome e (transfers reached cedent assignee parts)
 
-  pub settle-reached : (cents : Cents) (r : Called Taken Refusal) → stated nothing_taken r ≡ settled b cents → Reached r.book.book
+  pub settle-reached : (cents : Cents) (r : Called Taken Refusal ReachedBook) → stated nothing_taken r ≡ settled b cents → Reached r.book.book
   settle-reached cents r e = by_outcome e (settles reached cents)

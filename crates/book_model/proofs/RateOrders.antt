@@ -1,14 +1,18 @@
--- A rate order sets the rate from its first day on.
-use Rattle.std.proofs.Common.{ℕ, ◌<◌, arith, ◌≡◌, refl, ◌∙◌, Bool, true, false, cond, List, [], ◌∷◌, ◌++◌, ltb-false, leb-false, le-leb, leb, ltb, length, drop}
+-- A rate order sets the rate from its first day on, and leaves the account up to that day as it was.
+use Rattle.std.proofs.Common.{ℕ, ◌≤◌, ◌<◌, arith, ◌≡◌, refl, ap, ◌∙◌, Bool, true, false, cond, List, [], ◌∷◌, ◌++◌, ltb-false, leb-false, le-leb, leb, ltb, length, drop}
 use Rattle.std.proofs.Math.Seq.{take-append_seam}
 use Rattle.std.proofs.lemmas.Bool.{lt-leb}
+use Rattle.rates.specs.Rate.{daily_of}
 use Rattle.account.specs.declared.Account.{Account}
 use Rattle.book_model.specs.declared.Book.{Book}
 use Rattle.account.specs.declared.RateOrder.{RateOrder}
+use Rattle.account.specs.declared.Settlement.{Settlement}
 use Rattle.book_model.specs.Book.{rates_of, order_from}
 use Rattle.book_model.specs.Rate.{starting_before, with_rate, with_rates}
-use Rattle.book_model.specs.Schedule.{annual_on}
+use Rattle.book_model.specs.Schedule.{annual_on, daily_on}
 use Rattle.account.specs.Schedule.{in_force}
+use Rattle.account.specs.Standing.{settled_on, paying_off, account_at}
+use Rattle.account.proofs.Callers.{begins-same}
 
 pub rates-with_rates : (b : Book) (orders : List RateOrder) (a : Account) → rates_of (with_rates b orders a) ≡ orders
 unfolding with_rates
@@ -50,3 +54,14 @@ module _ (orders : List RateOrder) (o : RateOrder) where
           → cond b o.annual (annual_on (starting_before o.first.0 orders) t) ≡ cond b o.annual (annual_on orders t)
       go true e = refl
       go false e = in_force_before 0 o.first.0 orders t (leb-false _ _ e)
+
+  pub rate_kept_before : (t : ℕ) → t < o.first.0 → daily_on (with_rate o orders) t ≡ daily_on orders t
+  rate_kept_before t lt = ap daily_of (rate_sets_from t ∙ rw (lt-leb o.first.0 t lt))
+
+  pub account_kept_before : (cents : ℕ) (ss : List Settlement) (day : ℕ) → day ≤ o.first.0
+      → account_at cents (daily_on (with_rate o orders)) ss day ≡ account_at cents (daily_on orders) ss day
+  unfolding account_at
+  account_kept_before cents ss day le =
+      ap (paying_off (settled_on ss day))
+      (begins-same cents (daily_on (with_rate o orders)) (daily_on orders) (settled_on ss) (settled_on ss) day
+      (λ t lt. rate_kept_before t (omega arith)) (λ t lt. refl))

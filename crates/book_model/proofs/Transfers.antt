@@ -1,5 +1,5 @@
 -- The cases of Transfer.
-use Rattle.std.proofs.Common.{ℕ, ◌+◌, ◌-◌, ◌≤◌, ◌<◌, arith, ◌≡◌, refl, sym, ap, ◌∙◌, true, false, not, [], ◌∷◌, ◌++◌, eq-eqb, ne_eqb, lt-ltb, le-ltb, le-leb, length, get_or, set, length-append, length-set, get_or-take, get_or-set_other}
+use Rattle.std.proofs.Common.{ℕ, ◌+◌, ◌-◌, ◌≤◌, ◌<◌, arith, ◌≡◌, refl, sym, ap, ◌∙◌, true, false, not, [], ◌∷◌, ◌++◌, eq-eqb, ne_eqb, lt-ltb, le-ltb, length, get_or, set, length-append, length-set, get_or-take, get_or-set_other}
 use Rattle.std.proofs.lemmas.Bool.{lt-leb}
 use Rattle.general_laws.proofs.Fronts.{two_stored, next-stored}
 use Rattle.general_laws.proofs.Totals.{total_most_of}

@@ -36,9 +36,9 @@ impl ReachedBook {
     }
 }
 
-// A refused call gives back the book that came in.
+// A refused call gives back the book that came in: a reached one, but where an opening is called on any book.
 #[derive(Clone, Copy)]
-pub struct Called<T, E = Refusal> {
+pub struct Called<T, E = Refusal, B = ReachedBook> {
     pub answer: Result<T, E>,
-    pub book: ReachedBook,
+    pub book: B,
 }

@@ -6,6 +6,7 @@
 mod called;
 mod days;
 mod positions;
+mod pricing;
 
 ghost use Rattle.std.specs.Prelude.{◌≡◌, ◌≤◌, length};
 ghost use Rattle.book_model.specs.Book.{empty_book, fresh, held};
@@ -15,6 +16,7 @@ ghost use Rattle.book_model.specs.declared.Refusal.TheVariants.{Date, Overpaid, 
 pub use crate::called::{Called, ReachedBook};
 pub use crate::days::count_of;
 pub use crate::positions::{find, is_holder};
+pub use crate::pricing::daily_rate;
 use account::Unreckoned;
 pub use account::{Account, Cents, Day, RateOrder, Settlement};
 use answers::Numbered;

@@ -5,9 +5,9 @@ ghost use Rattle.std.specs.Prelude.{◌≡◌, ◌≤◌, min, ◌&&◌, ◌++�
 ghost use Rattle.std.specs.Result.{IfOk, IfErr};
 ghost use Rattle.std.specs.List.{list_all};
 ghost use Rattle.rates.specs.Rate.{daily_of};
+ghost use Rattle.book_model.specs.declared.Book.{Book};
 ghost use Rattle.book_model.specs.Book.{empty_book};
 ghost use Rattle.general_laws.specs.Members.{distinct};
-ghost use Rattle.book_model.specs.Called.{stated};
 ghost use Rattle.book_model.specs.Invariant.{Sound};
 ghost use Rattle.book_model.specs.Open.{is_share, is_term, is_recognised, is_financing, founded, new_book, opened};
 ghost use Rattle.book_model.specs.Outcome.{nothing, accept, refuse, outcome};
@@ -185,10 +185,40 @@ pub fn open_book_in_place(book: &mut ReachedBook, opening: Opening) -> Result<()
     open_in(&mut book.book, opening)
 }
 
-// By value, the form of every call. The closure holds the opening's parts: of one that holds a struct with a lifetime the check knows nothing.
-pub fn open_book(book: ReachedBook, opening: Opening) -> Called<()>
+// What Open is called on by value: any book, as nothing is supposed of it, or a reached one, which is reached again afterwards.
+pub trait Openable {
+    ghost plain: { Self → Book };
+
+    fn open(&mut self, opening: Opening) -> Result<(), Refusal>
+        ensures { let o = opening.entry in
+            outcome nothing result (plain self.new) ≡ opened (plain self.old) o.first o.term o.annual o.cents o.holders.now o.shares.now };
+}
+
+impl Openable for Book {
+    ghost plain = { λ b. b };
+
+    fn open(&mut self, opening: Opening) -> Result<(), Refusal> {
+        open_any_book(self, opening)
+    }
+}
+
+impl Openable for ReachedBook {
+    ghost plain = { λ b. b.book };
+
+    fn open(&mut self, opening: Opening) -> Result<(), Refusal> {
+        open_book_in_place(self, opening)
+    }
+}
+
+// By value, the form of every call.
+pub fn open_book<B: Openable>(book: B, opening: Opening) -> Called<(), Refusal, B>
     ensures { let o = opening.entry in
-        stated nothing result ≡ opened book.book o.first o.term o.annual o.cents o.holders.now o.shares.now }
+        outcome nothing result.answer (B.plain result.book) ≡ opened (B.plain book) o.first o.term o.annual o.cents o.holders.now o.shares.now }
 {
-    book.call(|book| open_book_in_place(book, Opening { ..opening }))
+    let mut after = book;
+    let answer = after.open(opening);
+    Called {
+        answer,
+        book: after,
+    }
 }

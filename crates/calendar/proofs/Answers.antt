@@ -1,5 +1,5 @@
 -- What is answered in each case, and what an answer tells.
-use Rattle.std.proofs.Common.{◌≡◌, true, false, ℕ, ◌+◌, ◌<◌, arith}
+use Rattle.std.proofs.Common.{◌≡◌, true, false, ℕ, ◌+◌, ◌<◌, arith, ◌⊎◌}
 use Rattle.std.specs.Prelude.{Result, Ok, Err}
 use Rattle.std.specs.Result.{result_unwrap_or as unwrap_or}
 use Rattle.std.proofs.lemmas.Grind.{common_steps}
@@ -44,6 +44,10 @@ module _ (x n : ℕ) where
         within = grind (arith, common_steps, last_count);
         is_sum = grind (arith, common_steps);
       }
+
+  pub refused_tells : (date_number, 0) ≡ sum_of x n → (is_date x ≡ false) ⊎ (73048 < day_count x + n)
+  unfolding sum_of
+  refused_tells e = grind (arith, common_steps, last_count)
 
   -- the value of the answer, where the sum is a date
   pub sum_value : (r : Result ℕ NotADate) → date_stated r ≡ sum_of x n → is_date x ≡ true → day_count x + n < 73049 → unwrap_or r 0 ≡ after x n

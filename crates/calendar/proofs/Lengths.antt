@@ -1,5 +1,5 @@
 -- The lengths of months and years.
-use Rattle.std.proofs.Common.{◌≡◌, refl, ap, Bool, true, false, ℕ, suc, ◌+◌, ◌-◌, ◌*◌, ◌/◌, ◌<◌, ◌≤◌, add-one, arith, leb-true, eqb-true, leb, eqb, get_or, take}
+use Rattle.std.proofs.Common.{◌≡◌, refl, ap, Bool, true, false, List, [], ◌∷◌, ℕ, suc, ◌+◌, ◌-◌, ◌*◌, ◌/◌, ◌<◌, ◌≤◌, add-one, arith, leb-true, eqb-true, leb, eqb, get_or, take}
 use Rattle.std.specs.List.{sum}
 use Rattle.general_laws.proofs.Every.{every_below, at_each}
 use Rattle.calendar.specs.Calendar.{is_leap, month_lengths, days_in, days_of_years, days_of_months}
@@ -37,6 +37,15 @@ pub months_grow : (y m : ℕ) → 1 ≤ m → m ≤ 12 → days_of_months y (m -
 months_grow y m l h =
     leb-true _ _
     (in_every_year 13 (λ leap i. leb (sum (take (i - 1) (month_lengths leap))) (sum (take i (month_lengths leap)))) refl refl (is_leap y) m (omega arith))
+
+-- the days of the year before each month
+abbrev pub month_starts : Bool → List ℕ
+month_starts true = 0 ∷ 31 ∷ 60 ∷ 91 ∷ 121 ∷ 152 ∷ 182 ∷ 213 ∷ 244 ∷ 274 ∷ 305 ∷ 335 ∷ []
+month_starts false = 0 ∷ 31 ∷ 59 ∷ 90 ∷ 120 ∷ 151 ∷ 181 ∷ 212 ∷ 243 ∷ 273 ∷ 304 ∷ 334 ∷ []
+
+pub month-start : (leap : Bool) (k : ℕ) → k < 12 → get_or (month_starts leap) k 0 ≡ sum (take k (month_lengths leap))
+month-start leap k h =
+    eqb-true _ _ (in_every_year 12 (λ b i. eqb (get_or (month_starts b) i 0) (sum (take i (month_lengths b)))) refl refl leap k h)
 
 pub years_formula : (k : ℕ) → k < 201 → days_of_years k ≡ 365 * k + (k + 3) / 4 - (k + 99) / 100 + (k + 399) / 400
 unfolding days_of_years

@@ -11,18 +11,34 @@ use std::io;
 // The most bytes of the input.
 const INPUT: usize = 65536;
 
-// The digest with one number more. A test of dates that disagrees with the day count spoils it.
-fn with_number(digest: u64, x: u32) -> u64 {
+// How many of a year's numbers so far are dates, and the digest of all numbers so far.
+#[derive(Clone, Copy)]
+struct Tally {
+    count: u64,
+    digest: u64,
+}
+
+// The tally with one number more. A test of dates that disagrees with the day count spoils the digest.
+fn with_number(tally: Tally, x: u32) -> Tally {
     let is_date = calendar::is_date(x);
     let day = calendar::day_count(x);
-    let counted = day.map_or(digest, |day| {
+    let counted = day.map_or(tally, |day| {
         let date = calendar::plus_days(20000101, day).unwrap_or(0);
-        mixed(mixed(mixed(digest, x.into()), day.into()), date.into())
+        Tally {
+            count: tally.count.saturating_add(1),
+            digest: mixed(
+                mixed(mixed(tally.digest, x.into()), day.into()),
+                date.into(),
+            ),
+        }
     });
     if day.is_ok() == is_date {
         counted
     } else {
-        mixed(counted, 1)
+        Tally {
+            digest: mixed(counted.digest, 1),
+            ..counted
+        }
     }
 }
 
@@ -31,12 +47,13 @@ fn put_year(rt: &impl Print, year: u32, digest: u64) -> u64
     requires { year ≤ 2200 }
 {
     let first = year * 10000;
-    let count = (first..first + 10000)
-        .filter(|&x| calendar::day_count(x).is_ok())
-        .count();
-    let after = (first..first + 10000).fold(digest, |digest, x| with_number(digest, x));
-    let _ = println!(rt; "{year} {count} {after}");
-    after
+    let tally = Tally { count: 0, digest };
+    let Tally { count, digest } = (first..first + 10000).fold(
+        tally,
+        |tally, x| with_number(tally, x),
+    );
+    let _ = println!(rt; "{year} {count} {digest}");
+    digest
 }
 
 // The line of the next case.

@@ -10,7 +10,7 @@ use crate::reading::Lines;
 use book::{Called, Cents, Day, Opening, Parts, ReachedBook, Refusal};
 use file_model::{LoadFault, LoadRefusal};
 use line::Fields;
-use std::ops::Range;
+use lines::Bounds;
 
 // A call's refusal is one of the line that made it.
 fn by_line<T: Drop>(line: usize, answer: Result<T, Refusal>) -> Result<(), LoadFault>
@@ -123,11 +123,14 @@ pub fn load(file: &[u8], book: ReachedBook) -> Called<usize, LoadFault>
 // Where the part begins and ends that an answer shows: the refused line, or the empty part at the file's end. A load answers numbers alone, and this call and
 // the next are made where somebody wants the part. File and answer stay apart, as callers have them.
 #[tactic(auto, using(file_model::proofs::Callers::refusal_not_zero), unfolding(file_model::specs::Load::part_start, file_model::specs::Load::part_end))]
-pub fn part_bounds(file: &[u8], answer: Result<usize, LoadFault>) -> Range<usize>
+pub fn part_bounds(file: &[u8], answer: Result<usize, LoadFault>) -> Bounds
     ensures { (result.start ≡ part_start file.now (number_told answer) (line_named answer)) × (result.end ≡ part_end file.now (number_told answer) (line_named answer)) }
 {
     match answer {
-        Ok(_) => file.len()..file.len(),
+        Ok(_) => Bounds {
+            start: file.len(),
+            end: file.len(),
+        },
         Err(fault) => lines::line_bounds(file, fault.line),
     }
 }
@@ -137,6 +140,6 @@ pub fn part_bounds(file: &[u8], answer: Result<usize, LoadFault>) -> Range<usize
 pub fn refused_part<'a>(file: &'a [u8], answer: Result<usize, LoadFault>) -> &'a [u8]
     ensures { result ≡ part_in file.entry (part_start file.now (number_told answer) (line_named answer)) (part_end file.now (number_told answer) (line_named answer)) }
 {
-    let Range { start, end } = part_bounds(file, answer);
+    let Bounds { start, end } = part_bounds(file, answer);
     &file[start..end]
 }

@@ -42,6 +42,16 @@ module _ (before : Book) where
   called Q line number b rest rest' most stops goes =
       by_both Q (eqb number 0) (λ e. goes (eqb-true _ _ e)) (λ e. let some = eqb-false _ _ e in stops number (omega arith) (omega arith))
 
+  -- what waits is opened first, whatever comes behind it
+  pub after_open_lem : (Q : Outcome → Outcome → Type 0) (b : Book) (waiting : Waiting) (rest rest' : Book → Outcome)
+      → ((line : ℕ) (o : Opening) → waiting ≡ Waits line o → Stops Q line) → ((opened : Book) → Q (rest opened) (rest' opened))
+      → Q (after_open before b waiting rest) (after_open before b waiting rest')
+  unfolding after_open
+  after_open_lem Q b None rest rest' stops goes = goes b
+  after_open_lem Q b (Waits line o) rest rest' stops goes =
+      called Q line (opened_with b o).answer.number (opened_with b o).book rest rest' (opening-most b o) (stops line o refl)
+      (λ _. goes (opened_with b o).book)
+
   -- the file's end, where an opening waits
   pub end_waits : (Q : Outcome → Outcome → Type 0) (b : Book) (line : ℕ) (o : Opening) (n : ℕ) → Stops Q line
       → Q (refused_by before (n + 1) 22) (refused_by before (n + 1) 22)
@@ -50,6 +60,24 @@ module _ (before : Book) where
   end_waits Q b line o n stops missing =
       called Q line (opened_with b o).answer.number (opened_with b o).book (λ _. refused_by before (n + 1) 22) (λ _. refused_by before (n + 1) 22)
       (opening-most b o) stops (λ _. missing)
+
+  -- a line that doesn't begin with F, where no opening waits, whatever comes behind it
+  module _ (n : ℕ) (Q : Order → Outcome → Outcome → Type 0) (stops : (order : Order) → Stops (Q order) (n + 1)) (b : Book) (last last' : Bool)
+      (rest rest' : Book → Waiting → Outcome)
+      (opens : (first term annual cents : ℕ)
+      → Q (Open first term annual cents) (rest b (Waits (n + 1) (opening_with first term annual cents [] [])))
+      (rest' b (Waits (n + 1) (opening_with first term annual cents [] []))))
+      (calls : (k : Call) → number_of b k ≡ 0 → Q (Later k) (rest (book_after b k) None) (rest' (book_after b k) None))
+      (ends : (count : ℕ) → Q (End count) (ended before b n count last) (ended before b n count last')) where
+    pub after_line_lem : (order : Order) → Q order (after_line before b n order last rest) (after_line before b n order last' rest')
+    unfolding after_line
+    after_line_lem (Open first term annual cents) = opens first term annual cents
+    after_line_lem (Finance h s) = stops (Finance h s) 21 (omega arith) (omega arith)
+    after_line_lem (Later k) =
+        called (Q (Later k)) (n + 1) (number_of b k) (book_after b k) (λ after. rest after None) (λ after. rest' after None) (call-most b k)
+        (stops (Later k)) (calls k)
+    after_line_lem (End count) = ends count
+    after_line_lem Malformed = stops Malformed 21 (omega arith) (omega arith)
 
   -- the next line
   module _ (n : ℕ) (l : List ℕ) (ls ls' : List (List ℕ)) (Q : Order → Outcome → Outcome → Type 0) (stops : (order : Order) → Stops (Q order) (n + 1)) where
@@ -61,21 +89,13 @@ module _ (before : Book) where
         (calls : (k : Call) → number_of b k ≡ 0
         → Q (Later k) (load_from before (book_after b k) None (n + 1) ls) (load_from before (book_after b k) None (n + 1) ls'))
         (ends : (count : ℕ) → Q (End count) (ended before b n count (none_left ls)) (ended before b n count (none_left ls'))) where
-      by-order : (order : Order)
-          → Q order (after_line before b n order (none_left ls) (λ after next. load_from before after next (n + 1) ls))
-          (after_line before b n order (none_left ls') (λ after next. load_from before after next (n + 1) ls'))
-      unfolding after_line
-      by-order (Open first term annual cents) = opens first term annual cents
-      by-order (Finance h s) = stops (Finance h s) 21 (omega arith) (omega arith)
-      by-order (Later k) =
-          called (Q (Later k)) (n + 1) (number_of b k) (book_after b k) (λ after. load_from before after None (n + 1) ls)
-          (λ after. load_from before after None (n + 1) ls') (call-most b k) (stops (Later k)) (calls k)
-      by-order (End count) = ends count
-      by-order Malformed = stops Malformed 21 (omega arith) (omega arith)
-
       pub both_next : Q (order_in l) (load_from before b None n (l ∷ ls)) (load_from before b None n (l ∷ ls'))
       unfolding load_from after_financing after_open
-      both_next = by_both (Q (order_in l)) (begins_with_f l) (λ _. stops (order_in l) 21 (omega arith) (omega arith)) (λ _. by-order (order_in l))
+      both_next =
+          by_both (Q (order_in l)) (begins_with_f l) (λ _. stops (order_in l) 21 (omega arith) (omega arith))
+          (λ _.
+          after_line_lem n Q stops b (none_left ls) (none_left ls') (λ after next. load_from before after next (n + 1) ls)
+          (λ after next. load_from before after next (n + 1) ls') opens calls ends (order_in l))
 
     -- where one waits: an F line adds to it, and before another it is called
     module _ (b : Book) (line : ℕ) (o : Opening)
@@ -124,6 +144,16 @@ module _ (before : Book) (P : Order → Outcome → Type 0)
     (refuses : (order : Order) (line number : ℕ) → (number ≡ 0 → ⊥) → P order (refused_by before line number)) where
   stopped : (order : Order) (line : ℕ) → Stops before (λ r _. P order r) line
   stopped order line number some _ = refuses order line number (λ e. omega arith)
+
+  -- a line that doesn't begin with F, where no opening waits
+  line_cases : (b : Book) (n : ℕ) (last : Bool) (rest : Book → Waiting → Outcome)
+      → ((first term annual cents : ℕ) → P (Open first term annual cents) (rest b (Waits (n + 1) (opening_with first term annual cents [] []))))
+      → ((k : Call) → number_of b k ≡ 0 → P (Later k) (rest (book_after b k) None))
+      → ((count : ℕ) → count ≡ n → last ≡ true → P (End count) (accepted n b))
+      → (order : Order) → P order (after_line before b n order last rest)
+  line_cases b n last rest opens calls ends =
+      after_line_lem before n (λ order r _. P order r) (λ order. stopped order (n + 1)) b last last rest rest opens calls
+      (λ count. end_cases before (P (End count)) (refuses (End count)) b n count last (ends count))
 
   -- the next line, where no opening waits
   pub next_cases : (b : Book) (n : ℕ) (l : List ℕ) (ls : List (List ℕ))

@@ -5,6 +5,7 @@ use Rattle.std.specs.Str.{byte}
 use Rattle.answers.specs.Answers.{number_in}
 use Rattle.book_model.specs.declared.Book.{Book}
 use Rattle.book_model.specs.declared.called.Called.{Called}
+use Rattle.book_model.specs.declared.called.ReachedBook.{ReachedBook}
 use Rattle.book_model.specs.declared.Refusal.TheVariants as book-refusal
 use Rattle.book_model.specs.Call.{Opening}
 use Rattle.book_model.specs.Calls.{opened_with, book_after, number_of}
@@ -46,7 +47,7 @@ abbrev pub answered : Result ℕ LoadFault → Book → Outcome
 answered (Ok count) b = accepted count b
 answered (Err fault) b = refused b fault.line fault.refusal
 
-abbrev pub load_stated : Called ℕ LoadFault → Outcome
+abbrev pub load_stated : Called ℕ LoadFault ReachedBook → Outcome
 load_stated called = answered called.answer called.book.book
 
 -- The lines in turn. `before` is the book that came in, and n counts the lines before the one that is read.

@@ -14,7 +14,7 @@ by_order a b f g = ⊎_elim f g (cases_lt a b)
 pub choice : {A : Type 0} (P : A → Type 0) (t : Bool) {a b : A} → (t ≡ true → P a) → (t ≡ false → P b) → P (cond t a b)
 choice P t {a} {b} = cond_both t a b P
 
--- Four tests
+-- Four tests, and five
 
 abbrev pub FourTrue : Bool → Bool → Bool → Bool → Type 0
 FourTrue q r s t = (q ≡ true) × (r ≡ true) × (s ≡ true) × (t ≡ true)
@@ -26,9 +26,18 @@ four_true q r s t e =
     let third = and_parts s t second.1 in
     (first.0, second.0, third.0, third.1)
 
+abbrev pub FiveTrue : Bool → Bool → Bool → Bool → Bool → Type 0
+FiveTrue q r s t u = (q ≡ true) × (r ≡ true) × (s ≡ true) × (t ≡ true) × (u ≡ true)
+
+pub five_true : (q r s t u : Bool) → q && (r && (s && (t && u))) ≡ true → FiveTrue q r s t u
+five_true q r s t u e =
+    let first = and_parts q (r && (s && (t && u))) e in
+    let rest = four_true r s t u first.1 in
+    (first.0, rest.0, rest.1, rest.2, rest.3)
+
 -- Tests that imply each other are equal
 
-test_same : (s t : Bool) → (s ≡ true → t ≡ true) → (t ≡ true → s ≡ true) → s ≡ t
+pub test_same : (s t : Bool) → (s ≡ true → t ≡ true) → (t ≡ true → s ≡ true) → s ≡ t
 test_same s true f g = g refl
 test_same true false f g = sym (f refl)
 test_same false false f g = refl

@@ -4,6 +4,7 @@ use Rattle.std.proofs.Math.Nat.{pow-le-pow_right, one-le-pow}
 use Rattle.std.proofs.lemmas.Bool.Decides.{nat_tests}
 use Rattle.std.specs.Prelude.{Some, None, Ok, Err}
 use Rattle.line.specs.Field.{Field, number, step_of, field_at}
+use Rattle.line.specs.Line.{number_of}
 
 -- a number, if there is one, is below k
 abbrev pub Below : Field → ℕ → Type 0
@@ -27,6 +28,9 @@ below_more f j k le h = grind arith
 pub field_below_wider : (s : List ℕ) (at w k : ℕ) → w ≤ k → Below (field_at s at w) (10 ^ k)
 field_below_wider s at w k le =
     below_more (field_at s at w) (10 ^ w) (10 ^ k) (pow-le-pow_right {n = 10} (omega arith) {i = w} {j = k} le) (field_below s at w)
+
+pub number-below : (f : Field) (k : ℕ) → 0 < k → Below f k → number_of f < k
+number-below f k pos h = grind arith
 
 -- a number of so many columns
 pub number_below : (s : List ℕ) (n : ℕ) → field_at s 0 (length s) ≡ number n → (10 ^ length s ≡ 10 ^ length s) × (n < 10 ^ length s)

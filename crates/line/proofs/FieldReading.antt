@@ -43,6 +43,13 @@ module _ (s : List ℕ) (at : ℕ) where
       let m : i + (w - i) ≡ w = omega arith in
       rw m at (bad_further i (w - i) e)
 
+  -- a first digit 0 is the number 0
+  pub zero_read : (i w : ℕ) → i < w → w ≤ i + 1 → field_at s at i ≡ blank → get_or s (at + i) 0 ≡ 48 → field_at s at w ≡ number 0
+  unfolding field_at
+  zero_read i w h k e c =
+      let m : w ≡ i + 1 = omega arith in
+      rw (m, add-one, e, c) refl
+
 -- a column more of an unused field is a space
 pub unused_further : (s : List ℕ) (i : ℕ) → proper false (field_at s 0 (i + 1)) ≡ (proper false (field_at s 0 i) && eqb (get_or s i 0) 32)
 unfolding field_at

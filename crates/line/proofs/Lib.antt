@@ -2,6 +2,7 @@
 -- proofs here cite.
 mod FieldBounds
 mod NumberStores
+mod NumberPut
 mod FieldRoundTrip
 mod FieldReading
 mod LineStores

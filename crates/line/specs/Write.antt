@@ -1,6 +1,7 @@
 -- The line that is written for given fields (document 01, "Order file").
-use Rattle.std.specs.Prelude.{ℕ, ◌^◌, List, [], ◌∷◌, ◌++◌, Bool, true, false, cond, ◌&&◌, length, drop, ltb, leb, eqb, Option, Some, None, Result}
+use Rattle.std.specs.Prelude.{ℕ, ◌+◌, ◌^◌, List, [], ◌∷◌, ◌++◌, Bool, true, false, cond, ◌&&◌, length, drop, ltb, leb, eqb, Option, Some, None, Result}
 use Rattle.std.specs.Str.{byte}
+use Rattle.std.proofs.lemmas.List.Edits.{sets}
 use Rattle.answers.specs.Answers.{number_in}
 use Rattle.line.specs.declared.Fields.{Fields}
 use Rattle.line.specs.declared.Malformed.{Malformed}
@@ -53,3 +54,7 @@ line_bytes f = bytes_under (used_in (uses_of f.letter)) f
 -- unknown letter, a field too wide, an unused field not 0, or a shorter buffer.": its number, and the buffer afterwards
 unfoldable pub written_of : Fields → List ℕ → ℕ × List ℕ
 written_of f buffer = cond (leb 43 (length buffer) && writable f) (0, line_bytes f ++ drop 43 buffer) (malformed_number, buffer)
+
+-- a buffer with the number n in its w columns from a position on; as it was where they are not all there
+unfoldable pub number_put : List ℕ → (at w n : ℕ) → List ℕ
+number_put buffer at w n = cond (leb (at + w) (length buffer)) (sets buffer at (justified w n)) buffer

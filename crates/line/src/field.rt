@@ -1,7 +1,7 @@
 // A number field of fixed width, read column by column from the left and written from the right.
 ghost use Rattle.std.specs.Prelude.{◌≡◌, false, ◌≤◌, ◌^◌, ◌<◌, length, get_or, not, eqb, position, IfOk};
 ghost use Rattle.line.specs.Field.{space, field_at, symbol_of, justified};
-ghost use Rattle.line.specs.Write.{field_bytes};
+ghost use Rattle.line.specs.Write.{field_bytes, number_put};
 ghost use Rattle.line.specs.FieldUse.{used_number, filled_field};
 ghost use Rattle.line.specs.Line.{proper};
 
@@ -91,6 +91,19 @@ pub fn write_number(columns: &mut [u8], n: u64)
         columns[i] = symbol(m);
         m /= 10;
     }
+}
+
+// A number in `width` columns from a position on; nothing where they are not all in the buffer.
+pub fn put_number(buf: &mut [u8], at: usize, width: usize, n: u64)
+    ensures { buf.new ≡ number_put buf.old at width n }
+{
+    if buf.len() < at {
+        return;
+    }
+    if buf.len() - at < width {
+        return;
+    }
+    write_number(&mut buf[at..at + width], n);
 }
 
 // Writes a used field's number into its columns, or spaces for an unused one, whose number a writer is given too.

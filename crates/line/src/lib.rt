@@ -9,7 +9,7 @@ ghost use Rattle.line.specs.Line.{refusal_number};
 ghost use Rattle.line.specs.RoundTrip.{RoundTrip};
 ghost use Rattle.line.specs.Examples.{Examples};
 
-pub use crate::field::write_number;
+pub use crate::field::{put_number, write_number};
 pub use crate::line::read_line;
 pub use crate::write::write_line;
 use answers::Numbered;

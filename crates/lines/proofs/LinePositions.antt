@@ -1,12 +1,14 @@
 -- Positions and lines: where the line at a position ends, and what the lines from there on are.
 use Rattle.std.proofs.Common.{◌≡◌, refl, ap, ◌∙◌, true, false, List, [], ◌∷◌, ◌++◌, ℕ, zero, suc, ◌+◌, ◌-◌, ◌≤◌, ◌<◌, add-zero, add-suc, add-one, arith, eqb, length, get_or, take, drop, length-drop, drop_of_length-le, drop-drop, get_or-take, get_or-drop, eq-eqb}
 use Rattle.std.proofs.Math.Numerals.{unary_clauses}
+use Rattle.std.proofs.lemmas.Bool.{false_from_ne_true}
 use Rattle.std.proofs.lemmas.Bool.Decides.{nat_tests}
-use Rattle.std.specs.Prelude.{Some, None, position}
+use Rattle.std.specs.Prelude.{Option, Some, None, position}
 use Rattle.std.specs.List.{position_or_len}
 use Rattle.std.proofs.lemmas.Grind.{common_steps}
 use Rattle.std.proofs.lemmas.List.Quantifiers.{position-Some}
-use Rattle.std.proofs.lemmas.List.Sums.{fails_before_first}
+use Rattle.std.proofs.lemmas.List.Sums.{position_or_len_is, fails_before_first}
+use Rattle.memchr.specs.Find.{IsFirstByte, is_byte}
 use Rattle.lines.specs.Lines.{lines, line_length, line_at, end_of, start_of, part_of}
 
 -- The first line's length
@@ -20,6 +22,16 @@ pub line_length_some : (s : List ℕ) → 0 < length s → 0 < line_length s
 unfolding line_length
 line_length_some [] h = absurd (omega arith)
 line_length_some (x ∷ s) h = grind (arith, nat_tests)
+
+-- what a search for the byte finds is the position of the first line feed
+pub first_feed : (s : List ℕ) (r : Option ℕ) → IsFirstByte (is_byte 10) s r → r ≡ position (λ x. eqb x 10) s
+first_feed s None h =
+    let e = position_or_len_is (λ (x : ℕ). eqb x 10) s (length s) 0 (omega arith) (λ i l. false_from_ne_true _ (h i (omega arith) l)) (λ l. absurd (omega arith)) in
+    grind (arith, common_steps)
+first_feed s (Some k) h =
+    let inside = h.0.high in
+    let e = position_or_len_is (λ (x : ℕ). eqb x 10) s k 0 (omega arith) (λ i l. false_from_ne_true _ (h.0.before i (omega arith) l)) (λ _. h.1) in
+    grind (arith, common_steps)
 
 -- up to the first line feed, or the whole where there is none
 pub length_to_feed : (s : List ℕ) (k : ℕ) → position (λ x. eqb x 10) s ≡ Some k → line_length s ≡ k + 1

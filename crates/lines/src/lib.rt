@@ -6,7 +6,7 @@ mod reading;
 
 ghost use Rattle.lines.specs.LineParts.{LineParts};
 
-pub use crate::position::{line_bounds, line_part};
+pub use crate::position::{Bounds, line_bounds, line_part};
 pub use crate::reading::Reader;
 
 // That the parts by number are the lines. It does nothing.

@@ -3,7 +3,13 @@ ghost use Rattle.std.specs.Prelude.{◌≡◌};
 ghost use Rattle.lines.specs.Lines.{start_of, line_start, line_end, part_in};
 
 use crate::reading::Reader;
-use std::ops::Range;
+
+// Where a line begins and ends in its file. A type of its own, as a Range isn't copied.
+#[derive(Clone, Copy, Debug, Default, PartialEq, Eq)]
+pub struct Bounds {
+    pub start: usize,
+    pub end: usize,
+}
 
 // Where so many lines end, counted from the file's start. The loop goes no further than the file's end, whatever the count.
 #[tactic(auto, using(crate::proofs::LinePositions::start_next, crate::proofs::LinePositions::start_stays), unfolding(crate::specs::Lines::start_of))]
@@ -22,14 +28,15 @@ fn end_of_lines(file: &[u8], count: usize) -> usize
 
 // Where the line of a number begins and ends. File and number stay apart, as callers have them.
 #[tactic(auto, unfolding(crate::specs::Lines::line_start, crate::specs::Lines::line_end, crate::specs::Lines::start_of))]
-pub fn line_bounds(file: &[u8], number: usize) -> Range<usize>
+pub fn line_bounds(file: &[u8], number: usize) -> Bounds
     ensures { (result.start ≡ line_start file.now number) × (result.end ≡ line_end file.now number) }
 {
     if number == 0 {
-        return 0..0;
+        return Bounds { start: 0, end: 0 };
     }
     let start = end_of_lines(file, number - 1);
-    start..Reader::new(file, start).line_end()
+    let end = Reader::new(file, start).line_end();
+    Bounds { start, end }
 }
 
 // The line of a number, with its line feed: that part of the file itself.
@@ -37,6 +44,6 @@ pub fn line_bounds(file: &[u8], number: usize) -> Range<usize>
 pub fn line_part<'a>(file: &'a [u8], number: usize) -> &'a [u8]
     ensures { result ≡ part_in file.entry (line_start file.now number) (line_end file.now number) }
 {
-    let Range { start, end } = line_bounds(file, number);
+    let Bounds { start, end } = line_bounds(file, number);
     &file[start..end]
 }

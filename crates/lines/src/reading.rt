@@ -5,12 +5,14 @@ ghost use Rattle.line.specs.Line.{read_stated, line_of};
 ghost use Rattle.lines.specs.Lines.{line_length, line_at, end_of};
 
 use line::{Fields, LINE_BYTES, Malformed, read_line};
+use memchr::memchr;
 
 // Where the first line feed is.
+#[tactic(auto, using(crate::proofs::LinePositions::first_feed))]
 fn feed_in(bytes: &[u8]) -> Option<usize>
     ensures { result ≡ position (λ x. eqb x (byte "\n")) bytes.now }
 {
-    bytes.iter().position(|&byte| byte == b'\n')
+    memchr(b'\n', bytes)
 }
 
 // The length of the first line.
