@@ -10,7 +10,7 @@ pub use book_model::{
     Book, Called, CentsChange, Parts, Placed, Position, ReachedBook, Refusal, Revised, Taken,
     Totals,
 };
-pub use book_open::{Opening, open_any_book, open_book, open_book_in_place};
+pub use book_open::{Openable, Opening, open_any_book, open_book, open_book_in_place};
 pub use book_rate::{rate, rate_in_place};
 pub use book_read::{position_at, position_of, totals};
 pub use book_settle::{settle, settle_in_place};
