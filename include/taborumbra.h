@@ -25,8 +25,8 @@ extern "C" {
 
 /* The library's version: each change that a user sees raises the second number; CHANGELOG.md tells what it brought. */
 #define TABORUMBRA_VERSION_MAJOR 0
-#define TABORUMBRA_VERSION_MINOR 4
-#define TABORUMBRA_VERSION "0.4"
+#define TABORUMBRA_VERSION_MINOR 5
+#define TABORUMBRA_VERSION "0.5"
 
 /* Why a call or a file is refused, by trade word. The lowest number that applies is told; in a file, the first fault. */
 enum taborumbra_number {
